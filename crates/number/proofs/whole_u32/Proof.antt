@@ -1,0 +1,38 @@
+-- `number::whole_u32` meets its contract. The tests are on the numbers -1 and 2 ^ 32, by their bit patterns.
+use mathlib.Core.Path.{sym, _∙_, subst}
+use Prim.Native.Nat.{ℕ, _<_, _^_}
+use lib.Dec.{T}
+use lib.Ieee.{ofBits, neg}
+use lib.Ieee.Casts.{toUnsigned-lt}
+use Rattle.number.proofs.Floats.{whole-below, below-more, whole-above, whole-none}
+use Rattle.number.proofs.whole_u32.Statement.{statement}
+use Rattle.number.proofs.whole_u32.Tie as tie
+
+truncating-f32-to-u64-requires : tie.Need-truncating-f32-to-u64-requires
+unfolding ofBits neg
+truncating-f32-to-u64-requires c κs = (subst T (sym (c .before .if1 .taken)) tt, below-more (c .before .before .args .x) (c .if2 .taken))
+
+cast-result : tie.Need-cast-result
+unfolding ofBits
+cast-result c =
+    record {
+      fits =
+          subst (λ (n : ℕ). n < 2 ^ 32)
+          (sym (c .truncating-f32-to-u64 .ensures ∙ whole-below (c .before .before .before .args .x) (c .before .if2 .taken)))
+          (toUnsigned-lt 32 (c .before .before .before .args .x));
+    }
+
+returns : tie.Need-returns
+unfolding ofBits
+returns c = c .truncating-f32-to-u64 .ensures ∙ whole-below (c .before .before .before .args .x) (c .before .if2 .taken)
+
+returns-2 : tie.Need-returns-2
+unfolding ofBits neg
+returns-2 c = whole-above (c .before .before .args .x) (c .before .if1 .taken) (c .if2 .left)
+
+returns-3 : tie.Need-returns-3
+unfolding ofBits neg
+returns-3 c = whole-none (c .before .args .x) (c .if1 .left)
+
+pub whole-u32-spec : {M : Type 1} → statement M
+whole-u32-spec = tie.close (tie.spec truncating-f32-to-u64-requires cast-result returns returns-2 returns-3)
