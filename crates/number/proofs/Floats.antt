@@ -1,13 +1,13 @@
 -- Facts on f32 that the proofs of this crate cite. Assumes nothing.
 use mathlib.Core.Path.{_≡_, refl, sym, _∙_, ap, subst}
-use mathlib.Core.Bool.{Bool, Bool·beq, true, false, not, _||_, true≢false, false≢true}
-use Prim.Native.Nat.{ℕ, zero, suc, _+_, _*_, _/_, _^_, _-_, _<_, _≤_, min}
-use native.Mathlib.Nat.{zero-mul, mul-pos, pow-suc, zero-lt-suc, min-eq-left, min-eq-right, div-lt-iff-lt-mul, le-div-iff-mul-le}
+use mathlib.Core.Bool.{Bool, Bool·beq, true, false, cond, not, _||_, true≢false, false≢true}
+use Prim.Native.Nat.{ℕ, zero, suc, _+_, _*_, _/_, _%_, _^_, _-_, _<_, _≤_, min}
+use native.Mathlib.Nat.{mod-lt, mod-mod, mod-mod-of-dvd, dvd-mul-right, zero-mul, mul-pos, pow-suc, zero-lt-suc, min-eq-left, min-eq-right, div-lt-iff-lt-mul, le-div-iff-mul-le}
 use native.Mathlib.Omega.{arith}
-use borrow.Author.Tests.{ltb-true, ltb-false, lt-ltb}
-use lib.Dec.{T, eqb, lt→ltb, eqb→eq}
+use borrow.Author.Tests.{ltb-true, ltb-false, lt-ltb, lt-leb}
+use lib.Dec.{T, leb, eqb, lt→ltb, eqb→eq}
 use lib.IntN.{ℤ, pos, negsuc}
-use lib.Ieee.{Float, nan, inf, fin, binary32, ofBits, neg, lt, eq, ne, fits, isNan, toUnsigned, up, down}
+use lib.Ieee.{Float, Format, nan, inf, fin, binary32, prec, low, hid, ones, top, odd, ofFields, ofBits, neg, lt, eq, ne, fits, isNan, toUnsigned, up, down}
 use lib.Ieee.Fits.{up-pos, down-pos, and-l}
 use lib.Pow.{pow-pos}
 use Rattle.number.specs.Numbers.{magnitude}
@@ -99,3 +99,26 @@ magnitude-other (fin true m e) g h =
     let p : m * up e * 1 + 0 * down e ≤ 0 = ltb-false _ _ g in
     let a : m * up e * 1 ≡ 0 = omega arith in
     absurd (true≢false (sym (simp (a, zero-mul)) ∙ h))
+
+-- clearing the sign clears the highest bit of the pattern
+odd-magnitude : (d : ℕ) (s : Bool) (q k l : ℕ) → magnitude (odd d s q k l) ≡ odd d false q k l
+unfolding odd magnitude
+odd-magnitude d s zero k l = refl
+odd-magnitude d s (suc q) k l = refl
+
+fields-magnitude : (f : Format) (s : Bool) (x t : ℕ) → magnitude (ofFields f s x t) ≡ ofFields f false x t
+unfolding ofFields magnitude
+fields-magnitude f s zero t = odd-magnitude (prec f) s t 0 (low f)
+fields-magnitude f s (suc x) t = go (eqb (suc x) (ones f)) (eqb t 0)
+  where
+    go : (a b : Bool) → magnitude (cond a (cond b (inf s) nan) (odd (prec f) s (hid f + t) x (low f))) ≡ cond a (cond b (inf false) nan) (odd (prec f) false (hid f + t) x (low f))
+    go true true = refl
+    go true false = refl
+    go false b = odd-magnitude (prec f) s (hid f + t) x (low f)
+
+pub sign-bit-cleared : (n : ℕ) → magnitude (ofBits binary32 n) ≡ ofBits binary32 (n % 2 ^ 31)
+unfolding ofBits
+sign-bit-cleared n =
+    let f = binary32 in
+    fields-magnitude f (leb (top f) n) (n % top f / hid f) (n % hid f)
+    ∙ rw (lt-leb (top f) (n % 2 ^ 31) (mod-lt n (omega arith)), mod-mod n (2 ^ 31), mod-mod-of-dvd (hid f) n (dvd-mul-right (hid f) (suc (ones f))))

@@ -1,31 +1,65 @@
-// Conversions to and from f32.
+// Bytes and whole numbers to f32, and f32 to and from their bit patterns.
 ghost use mathlib.Core.Path.{_≡_};
-ghost use lib.Ieee.{binary32, ofBits, toBits, toUnsigned};
-ghost use Rattle.number.specs.Numbers.{fixed, clamped, unorm8, unorm16, snorm8, snorm16, magnitude, f0, f1, signedOf};
+ghost use mathlib.Core.List.{[], _∷_};
+ghost use Prim.Native.Nat.{_*_, _<_, _≤_};
+ghost use lib.IntN.{pos};
+ghost use lib.Ieee.{binary32, ofBits, toBits};
+ghost use Rattle.number.specs.F32.{nearest};
+ghost use Rattle.number.specs.Numbers.{le, signedAt, signedOf, fixed, clamped, clampedUnit, unorm, snorm, magnitude, wholePart};
+
+// The numbers of two and of four little-endian bytes.
+pub fn le16(a: u8, b: u8) -> u16
+    ensures { λ r. ⌜ r ≡ le (a ∷ b ∷ []) ⌝ }
+{
+    (a as u16) + 256 * (b as u16)
+}
+
+pub fn le32(a: u8, b: u8, c: u8, d: u8) -> u32
+    ensures { λ r. ⌜ r ≡ le (a ∷ b ∷ c ∷ d ∷ []) ⌝ }
+{
+    (a as u32) + 256 * ((b as u32) + 256 * ((c as u32) + 256 * (d as u32)))
+}
+
+// Two's complement: of the numbers below 2 * half those from half on stand for the negative ones.
+pub fn signed16(n: u16, half: u16) -> i16
+    requires { ⌜ (half ≤ 0x8000) × (n < 2 * half) ⌝ }
+    ensures { λ r. ⌜ r ≡ signedAt half n ⌝ }
+{
+    if n < half {
+        n as i16
+    } else {
+        -1 - ((half - 1 - (n - half)) as i16)
+    }
+}
+
+pub fn signed32(n: u32) -> i32
+    ensures { λ r. ⌜ r ≡ signedOf 32 n ⌝ }
+{
+    if n < 0x8000_0000 {
+        n as i32
+    } else {
+        -1 - ((0x7fff_ffff - (n - 0x8000_0000)) as i32)
+    }
+}
+
+// The f32 equal to a number of 16 bits.
+pub fn u16_to_f32(n: u16) -> f32
+    ensures { λ r. ⌜ r ≡ nearest (pos n) ⌝ }
+{
+    n as f32
+}
+
+pub fn i16_to_f32(v: i16) -> f32
+    ensures { λ r. ⌜ r ≡ nearest v ⌝ }
+{
+    v as f32
+}
 
 // A 16.16 fixed-point number.
 pub fn fixed_to_f32(v: i32) -> f32
     ensures { λ r. ⌜ r ≡ fixed v ⌝ }
 {
     std::num::nearest_i32_to_f32(v) / 65536.0
-}
-
-// The f32 of a bit pattern; every NaN pattern gives a NaN.
-pub fn f32_of_bits(n: u32) -> f32
-    ensures { λ r. ⌜ r ≡ ofBits binary32 n ⌝ }
-{
-    if 0x7f80_0000 < n % 0x8000_0000 {
-        0.0 / 0.0
-    } else {
-        f32::from_bits(n)
-    }
-}
-
-// The bit pattern of x; 0x7FC00000 for a NaN.
-pub fn bits_of_f32(x: f32) -> u32
-    ensures { λ r. ⌜ r ≡ toBits binary32 x ⌝ }
-{
-    if x != x { 0x7fc0_0000 } else { f32::to_bits(x) }
 }
 
 // x held within lo to hi; a NaN stays.
@@ -41,38 +75,45 @@ pub fn clamp(x: f32, lo: f32, hi: f32) -> f32
     x
 }
 
-pub fn unorm8_to_f32(n: u8) -> f32
-    ensures { λ r. ⌜ r ≡ unorm8 n ⌝ }
-{
-    (n as f32) / 255.0
-}
-
-pub fn unorm16_to_f32(n: u16) -> f32
-    ensures { λ r. ⌜ r ≡ unorm16 n ⌝ }
-{
-    (n as f32) / 65535.0
-}
-
-pub fn snorm8_to_f32(n: i8) -> f32
-    ensures { λ r. ⌜ r ≡ snorm8 n ⌝ }
-{
-    clamp((n as f32) / 127.0, -1.0, 1.0)
-}
-
-pub fn snorm16_to_f32(n: i16) -> f32
-    ensures { λ r. ⌜ r ≡ snorm16 n ⌝ }
-{
-    clamp((n as f32) / 32767.0, -1.0, 1.0)
-}
-
-// Alpha reference: 0 to 1, a NaN stays.
+// x held within 0 to 1; a NaN stays.
 pub fn clamp_unit(x: f32) -> f32
-    ensures { λ r. ⌜ r ≡ clamped f0 f1 x ⌝ }
+    ensures { λ r. ⌜ r ≡ clampedUnit x ⌝ }
 {
     clamp(x, 0.0, 1.0)
 }
 
-// x with its sign bit cleared.
+// Normalised components, by the largest value of their type.
+pub fn unorm_to_f32(n: u16, max: u16) -> f32
+    ensures { λ r. ⌜ r ≡ unorm n max ⌝ }
+{
+    u16_to_f32(n) / u16_to_f32(max)
+}
+
+pub fn snorm_to_f32(v: i16, max: u16) -> f32
+    ensures { λ r. ⌜ r ≡ snorm v max ⌝ }
+{
+    clamp(i16_to_f32(v) / u16_to_f32(max), -1.0, 1.0)
+}
+
+// The f32 of a bit pattern; every NaN pattern gives a NaN.
+pub fn f32_of_bits(n: u32) -> f32
+    ensures { λ r. ⌜ r ≡ ofBits binary32 n ⌝ }
+{
+    if 0x7f80_0000 < n % 0x8000_0000 {
+        0.0 / 0.0
+    } else {
+        f32::from_bits(n)
+    }
+}
+
+// The bit pattern of x; 0x7fc00000 for a NaN.
+pub fn bits_of_f32(x: f32) -> u32
+    ensures { λ r. ⌜ r ≡ toBits binary32 x ⌝ }
+{
+    if x != x { 0x7fc0_0000 } else { f32::to_bits(x) }
+}
+
+// x with its sign bit cleared. -0.0 < 0.0 is false, so a zero has a branch of its own.
 pub fn abs(x: f32) -> f32
     ensures { λ r. ⌜ r ≡ magnitude x ⌝ }
 {
@@ -87,7 +128,7 @@ pub fn abs(x: f32) -> f32
 
 // The whole part of x as a u32: 0 for a NaN and below 1, the largest u32 above its range.
 pub fn whole_u32(x: f32) -> u32
-    ensures { λ r. ⌜ r ≡ toUnsigned 32 x ⌝ }
+    ensures { λ r. ⌜ r ≡ wholePart x ⌝ }
 {
     if x > -1.0 {
         if x < 4294967296.0 {
@@ -96,35 +137,4 @@ pub fn whole_u32(x: f32) -> u32
         return 0xffff_ffff;
     }
     0
-}
-
-// The signed numbers of 8, 16 and 32 bits, from their bits.
-pub fn i8_of_bits(n: u8) -> i8
-    ensures { λ r. ⌜ r ≡ signedOf 8 n ⌝ }
-{
-    if n < 0x80 {
-        n as i8
-    } else {
-        -1 - ((0xff - n) as i8)
-    }
-}
-
-pub fn i16_of_bits(n: u16) -> i16
-    ensures { λ r. ⌜ r ≡ signedOf 16 n ⌝ }
-{
-    if n < 0x8000 {
-        n as i16
-    } else {
-        -1 - ((0xffff - n) as i16)
-    }
-}
-
-pub fn i32_of_bits(n: u32) -> i32
-    ensures { λ r. ⌜ r ≡ signedOf 32 n ⌝ }
-{
-    if n < 0x8000_0000 {
-        n as i32
-    } else {
-        -1 - ((0xffff_ffff - n) as i32)
-    }
 }
