@@ -2,7 +2,7 @@
 use mathlib.Core.Path.{_≡_, refl, sym, _∙_, ap}
 use mathlib.Core.List.{List, [], _∷_}
 use Prim.Native.Nat.{ℕ, zero, suc, _+_, _*_, _/_, _%_, _^_, _<_, _≤_}
-use native.Mathlib.Nat.{pow-succ', zero-div, div-one, mod-eq-of-lt, add-mul-div-left, add-mul-mod-self-left, div-div-eq-div-mul, div-eq-of-lt, zero-add, mul-le-mul-left}
+use native.Mathlib.Nat.{pow-succ', zero-div, div-one, mod-eq-of-lt, add-mul-div-left, add-mul-mod-self-left, div-div-eq-div-mul, div-eq-of-lt, zero-add, add-zero, add-suc, mul-le-mul-left}
 use native.Mathlib.Omega.{arith}
 use lib.ListN.{length, getD, take, drop}
 use lib.Seq.{drop-cons}
@@ -29,11 +29,29 @@ le-byte (b ∷ bs) h (suc i) =
     shifted : (b + 256 * le bs) / 256 ≡ le bs
     shifted = add-mul-div-left b (le bs) (omega arith) ∙ ap (λ (x : ℕ). x + le bs) (div-eq-of-lt (h .0)) ∙ zero-add (le bs)
 
--- the w elements of a list from a place on, one by one
-abbrev pub window : List ℕ → ℕ → ℕ → List ℕ
-window s at zero = []
-window s at (suc w) = getD s at 0 ∷ window s (suc at) w
+-- the w elements of a list from at + k on, one by one
+abbrev pub window : List ℕ → ℕ → ℕ → ℕ → List ℕ
+window s at k zero = []
+window s at k (suc w) = getD s (at + k) 0 ∷ window s at (suc k) w
 
-pub window-is : (w : ℕ) (s : List ℕ) (at : ℕ) → at + w ≤ length s → take w (drop at s) ≡ window s at w
-window-is zero s at h = refl
-window-is (suc w) s at h = rw (drop-cons s at 0 (omega arith)) (ap (λ (l : List ℕ). getD s at 0 ∷ l) (window-is w s (suc at) (omega arith)))
+window-is : (w : ℕ) (s : List ℕ) (at k : ℕ) → at + k + w ≤ length s → take w (drop (at + k) s) ≡ window s at k w
+window-is zero s at k h = refl
+window-is (suc w) s at k h =
+    rw (drop-cons s (at + k) 0 (omega arith))
+    (ap (λ (l : List ℕ). getD s (at + k) 0 ∷ l) (rw (sym (add-suc at k)) (window-is w s at (suc k) (omega arith))))
+
+length-window : (w : ℕ) (s : List ℕ) (at k : ℕ) → length (window s at k w) ≡ w
+length-window zero s at k = refl
+length-window (suc w) s at k = ap suc (length-window w s at (suc k))
+
+bytes-window : (w : ℕ) (s : List ℕ) (at k : ℕ) → ((i : ℕ) → getD s i 0 < 256) → Bytes (window s at k w)
+bytes-window zero s at k b = tt
+bytes-window (suc w) s at k b = (b (at + k), bytes-window w s at (suc k) b)
+
+-- the number of a part of a list of bytes, from the bytes one by one
+pub le-part : (w : ℕ) (s : List ℕ) (at : ℕ) → at + w ≤ length s → ((i : ℕ) → getD s i 0 < 256) → (n : ℕ) → n ≡ le (window s at 0 w)
+    → (n ≡ le (take w (drop at s))) × (n < 256 ^ w)
+le-part w s at h b n e = (
+  e ∙ ap le (sym (rw (add-zero at) at (window-is w s at 0 (omega arith)))),
+  rw (sym e, length-window w s at 0) at (le-bound (window s at 0 w) (bytes-window w s at 0 b)),
+)

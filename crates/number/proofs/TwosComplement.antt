@@ -3,7 +3,9 @@ use mathlib.Core.Path.{_≡_, refl, sym, _∙_, ap, subst⁻¹}
 use Prim.Native.Nat.{ℕ, zero, suc, _+_, _-_, _*_, _<_, _≤_, _^_}
 use native.Mathlib.Nat.{zero-add}
 use native.Mathlib.Omega.{arith}
-use borrow.Author.Tests.{lt-ltb, le-ltb}
+use mathlib.Core.Bool.{Bool, true, false, cond}
+use lib.Dec.{ltb}
+use borrow.Author.Tests.{ltb-true, ltb-false, lt-ltb, le-ltb}
 use lib.IntN.{ℤ, pos, negsuc, _+ℤ_, _-ℤ_}
 use mir.Syntax.{Width}
 use mir.Val.{SFits, toZ, ofZ, hbits}
@@ -41,3 +43,14 @@ module _ (w : Width) (half n : ℕ) (small : half ≤ 2 ^ hbits w) (below : n < 
   negative l =
       let e : half - 1 - (n - half) ≡ 2 * half - suc n = omega arith in
       rw (le-ltb n half l) (flipped-read w (half - 1 - (n - half)) (omega arith) ∙ ap negsuc e)
+
+  signed-fits : SFits w (signedAt half n)
+  signed-fits = go (ltb n half) refl
+    where
+      go : (b : Bool) → ltb n half ≡ b → SFits w (cond b (pos n) (negsuc (2 * half - suc n)))
+      go true e = record { sfits = omega (arith, ltb-true n half e) }
+      go false e = record { sfits = omega (arith, ltb-false n half e) }
+
+  -- what the machine reads back of it
+  pub signed-read : toZ w (ofZ w (signedAt half n)) ≡ signedAt half n
+  signed-read = toZ-ofZ w (signedAt half n) signed-fits

@@ -1,0 +1,4 @@
+-- Laws that several proofs share.
+pub mod Addresses
+pub mod Parts
+pub mod Widths

@@ -1,0 +1,64 @@
+-- `fetch::fetch` meets its contract: the address, then the place, then the components.
+use mathlib.Core.Path.{_≡_, sym, ap, _∙_}
+use lib.ListN.{length}
+use borrow.Author.Needs.{needs}
+use Rattle.fetch.specs.Decode.{vectorOf}
+use Rattle.fetch.specs.Fetch.{addressOf, fetched}
+use Rattle.fetch.specs.declared.Fetched.{Fetched}
+use Rattle.fetch.proofs.Addresses.{address-length}
+use Rattle.fetch.proofs.Parts.{part-length}
+use Rattle.fetch.proofs.fetch.Statement.{statement}
+use Rattle.fetch.proofs.fetch.Tie as tie
+
+element-requires : tie.Need-element-requires
+element-requires c κs = (rw (c .before .place .given .1) at (c .before .before .before .find-place .ensures)) .0
+
+vector-requires : tie.Need-vector-requires
+vector-requires c κs =
+    let l = address-length (c .before .before .before .before .before .before .before .before .before .before .before .args .array) (c .before .before .before .before .before .before .before .before .before .before .before .args .index) _ _ (sym (c .before .before .before .before .before .before .before .before .address-of .ensures) ∙ c .before .before .before .before .before .before .found .given .1) in
+    let p = (rw (c .before .before .place .given .1) at (c .before .before .before .before .find-place .ensures)) in
+    (ap length (c .element .ensures) ∙ part-length _ _ _ (p .0) ∙ l .0, l .1)
+
+returns : tie.Need-returns
+unfolding fetched
+returns c = rw (sym (c .before .before .address-of .ensures) ∙ c .enum-told .given .1)
+
+returns-2 : tie.Need-returns-2
+unfolding fetched
+returns-2 c = rw (sym (c .before .before .address-of .ensures) ∙ c .enum-told2 .given .1)
+
+returns-3 : tie.Need-returns-3
+unfolding fetched
+returns-3 c = rw (sym (c .before .before .before .before .before .before .address-of .ensures) ∙ c .before .before .before .before .found .given .1, rw (c .enum-told3 .given .1) at (c .before .before .find-place .ensures))
+
+returns-4 : tie.Need-returns-4
+unfolding fetched
+returns-4 c = rw (sym (c .before .before .before .before .before .before .address-of .ensures) ∙ c .before .before .before .before .found .given .1, rw (c .enum-told4 .given .1) at (c .before .before .find-place .ensures))
+
+returns-5 : tie.Need-returns-5
+unfolding fetched
+returns-5 c =
+    let p = (rw (c .before .before .before .place .given .1) at (c .before .before .before .before .before .find-place .ensures)) in
+    rw (sym (c .before .before .before .before .before .before .before .before .before .address-of .ensures) ∙ c .before .before .before .before .before .before .before .found .given .1, p .1)
+    (ap Fetched.Components (c .vector .ensures ∙ ap (vectorOf _ _ _) (c .before .element .ensures)))
+
+pub fetch-spec : {M : Type 1} → statement M
+fetch-spec =
+    tie.close
+    (tie.spec
+    (λ c κs. search needs)
+    (λ c. search needs)
+    (λ c. search needs)
+    (λ c. search needs)
+    (λ c. search needs)
+    (λ c κs. search needs)
+    (λ c. search needs)
+    (λ c. search needs)
+    (λ c. search needs)
+    element-requires
+    vector-requires
+    returns
+    returns-2
+    returns-3
+    returns-4
+    returns-5)
