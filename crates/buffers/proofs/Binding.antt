@@ -1,0 +1,59 @@
+-- The contract of a call that borrows no store, and `bind_buffer` case by case.
+use Prim.Native.Nat.{ℕ, _<_, _≤_}
+use mathlib.Core.Bool.{Bool, true, false, cond}
+use mathlib.Core.List.{List}
+use mathlib.Core.Logic.{_⊎_, inl, inr, ⊎-elim}
+use mathlib.Core.Path.{_≡_, refl, sym, ap, _∙_}
+use native.Mathlib.Omega.{arith}
+use borrow.Author.Tests.{le-leb, lt-leb, eq-eqb, ne-eqb}
+use Rattle.buffers.specs.Objects.{Objects, objects, Answer, answer, Answers, named, bindArray, bindElement, bindBuffer, Sound, Made}
+use Rattle.buffers.specs.declared.Buffers.{Buffers}
+use Rattle.buffers.proofs.Slots.{sound-with}
+
+module _ (b : Buffers) (rule : Objects → Answer) where
+  pub answers-unsound : (Sound b → ⊥) → Answers b rule 1 b
+  answers-unsound un = record { unsound = λ q. (refl, refl); ruled = λ s. absurd (un s); kept = λ s. s; stays = λ p q. refl }
+
+  module _ (sound : Sound b) (number : ℕ) where
+    pub answers-same : ((s : List ℕ) → answer number (objects b s) ≡ rule (objects b s)) → Answers b rule number b
+    answers-same h = record { unsound = λ q. absurd (q sound); ruled = λ q. h; kept = λ s. s; stays = λ p q. refl }
+
+    pub answers-moved : (r : Buffers) → (number ≡ 0) ⊎ (number ≡ 0x0500) → ((s : List ℕ) → answer number (objects r s) ≡ rule (objects b s)) → Sound r → Answers b rule number r
+    answers-moved r done h k = record { unsound = λ q. absurd (q sound); ruled = λ q. h; kept = λ s. k; stays = λ p q. absurd (⊎-elim p q done) }
+
+module _ (b : Buffers) (sound : Sound b) (t n : ℕ) where
+  pub bind-last : 4294967295 ≤ n → Answers b (λ o. bindBuffer o t n) 5 b
+  unfolding bindBuffer
+  bind-last h = answers-same b _ sound 5 (λ s. simp (le-leb 4294967295 n h))
+
+  -- after the name is made
+  module _ (h : n < 4294967295) (ok : Bool) (m : Buffers) (made : Made b n ok m) where
+    pub bind-full : ok ≡ false → Answers b (λ o. bindBuffer o t n) 4 b
+    unfolding bindBuffer
+    bind-full e = answers-same b _ sound 4 (λ s. simp (lt-leb 4294967295 n h, sym (made .room s) ∙ e))
+
+    module _ (e : ok ≡ true) where
+      after : (s : List ℕ) → objects m s ≡ named (objects b s) n
+      after s = made .state s ∙ ap (λ (x : Bool). cond x (named (objects b s) n) (objects b s)) e
+
+      pub bind-array : t ≡ 0x8892 → Answers b (λ o. bindBuffer o t n) 0 (record { slots = m .slots; next = m .next; «array_buffer» = n; «element_buffer» = m .«element_buffer» })
+      unfolding bindBuffer
+      bind-array q =
+          answers-moved b _ sound 0 _ (inl refl)
+          (λ s. ap (λ (o : Objects). answer 0 (bindArray o n)) (after s) ∙ simp (lt-leb 4294967295 n h, sym (made .room s) ∙ e, eq-eqb t 0x8892 q))
+          (sound-with m (made .sound) _ n _ (omega arith) (made .bound e) (made .sound .element-live))
+
+      module _ (f : t ≡ 0x8892 → ⊥) where
+        pub bind-element : t ≡ 0x8893 → Answers b (λ o. bindBuffer o t n) 0 (record { slots = m .slots; next = m .next; «array_buffer» = m .«array_buffer»; «element_buffer» = n })
+        unfolding bindBuffer
+        bind-element q =
+            answers-moved b _ sound 0 _ (inl refl)
+            (λ s. ap (λ (o : Objects). answer 0 (bindElement o n)) (after s) ∙ simp (lt-leb 4294967295 n h, sym (made .room s) ∙ e, ne-eqb t 0x8892 f, eq-eqb t 0x8893 q))
+            (sound-with m (made .sound) _ _ n (omega arith) (made .sound .array-live) (made .bound e))
+
+        pub bind-other : (t ≡ 0x8893 → ⊥) → Answers b (λ o. bindBuffer o t n) 0x0500 m
+        unfolding bindBuffer
+        bind-other g =
+            answers-moved b _ sound 0x0500 m (inr refl)
+            (λ s. ap (answer 0x0500) (after s) ∙ simp (lt-leb 4294967295 n h, sym (made .room s) ∙ e, ne-eqb t 0x8892 f, ne-eqb t 0x8893 g))
+            (made .sound)

@@ -1,0 +1,67 @@
+use Prim.Native.Nat.{_+_, _<_, _≤_}
+use mathlib.Core.Path.{_≡_, sym}
+use native.Mathlib.Omega.{arith}
+use borrow.Author.Needs.{needs}
+use borrow.Author.Tests.{eq-eqb, not-true, not-false}
+use lib.ListN.{length}
+use denote.Ref.{now}
+use Rattle.buffers.specs.Objects.{objects, boundAt, Sound, bufferSubData}
+use Rattle.buffers.proofs.Uploads.{in-invalid, in-same, bound-slot, slot-small, sub-short, sub-done}
+use Rattle.buffers.proofs.buffer_sub_data.Statement.{statement}
+use Rattle.buffers.proofs.buffer_sub_data.Tie as tie
+
+valid : (c : tie.Else1) → Sound (c .before .before .before .before .args .b)
+valid c = c .before .sound .ensures .yes (not-false _ (c .if1 .left))
+
+bound : (c : tie.After-bound-name) → c .bound-name .result ≡ boundAt (objects (c .before .before .before .before .before .before .args .b) (now (c .before .before .before .before .before .before .args .store))) (c .before .before .before .before .before .before .args .target)
+bound c = c .bound-name .ensures (now (c .before .before .before .before .before .before .args .store))
+
+-- the bound name has a slot
+found : (c : tie.After-find-slot) → c .find-slot .result < 16
+found c = omega (arith, c .find-slot .ensures, bound-slot _ (valid (c .before .before .before .before)) (now (c .before .before .before .before .before .before .before .before .args .store)) (c .before .before .before .before .before .before .before .before .args .target) _ (bound (c .before .before)) (c .before .if3 .left))
+
+-- the range lies in its block
+room : (c : tie.Else4) → c .before .before .before .before .before .before .before .before .before .before .args .offset + length (now (c .before .before .before .before .before .before .before .before .before .before .args .«data»)) ≤ 4096
+room c =
+    omega (
+      arith,
+      c .if4 .left,
+      c .before .slot-len .ensures,
+      slot-small _ (now (c .before .before .before .before .before .before .before .before .before .before .args .store)) (c .before .before .before .before .before .before .before .before .before .before .args .target) _ (valid (c .before .before .before .before .before .before)) (c .before .before .before .before .before .before .before .sound .ensures .slots) (c .before .before .before .before .before .if2 .left) (bound (c .before .before .before .before)) (c .before .before .before .if3 .left) _ (c .before .before .find-slot .ensures),
+    )
+
+returns : tie.Need-returns
+returns c = in-invalid _ _ _ (λ s e. c .before .sound .ensures .no (not-true _ (c .if1 .taken)) s)
+
+returns-2 : tie.Need-returns-2
+returns-2 c = in-invalid _ _ _ (λ s. c .if2 .taken)
+
+returns-3 : tie.Need-returns-3
+unfolding bufferSubData
+returns-3 c = in-same _ _ _ (valid (c .before .before .before)) (c .before .before .if2 .left) 0x0502 (simp (bufferSubData, sym (bound (c .before)), eq-eqb _ _ (c .if3 .taken)))
+
+slot-len-requires : tie.Need-slot-len-requires
+slot-len-requires c κs = found c
+
+returns-4 : tie.Need-returns-4
+returns-4 c =
+    sub-short _ _ _ _ (valid (c .before .before .before .before .before .before)) (c .before .before .before .before .before .before .before .sound .ensures .slots) (c .before .before .before .before .before .if2 .left) (bound (c .before .before .before .before)) (c .before .before .before .if3 .left) _ (c .before .before .find-slot .ensures) _ _ _ (c .before .slot-len .ensures) (c .if4 .taken)
+
+mul-write-padded : tie.Need-mul-write-padded
+mul-write-padded c = omega (arith, found (c .before .before .before))
+
+add-write-padded : tie.Need-add-write-padded
+add-write-padded c = omega (arith, found (c .before .before .before), room (c .before))
+
+write-padded-requires : tie.Need-write-padded-requires
+write-padded-requires c κs = omega (arith, found (c .before .before .before), room (c .before), c .before .before .before .before .before .before .if2 .left)
+
+returns-5 : tie.Need-returns-5
+returns-5 c =
+    sub-done _ _ _ _ (valid (c .before .before .before .before .before .before .before .before .before .before)) (c .before .before .before .before .before .before .before .before .before .before .before .sound .ensures .slots) (c .before .before .before .before .before .before .before .before .before .if2 .left) (bound (c .before .before .before .before .before .before .before .before)) (c .before .before .before .before .before .before .before .if3 .left) _ (c .before .before .before .before .before .before .find-slot .ensures) _ _ _ (c .before .before .before .before .before .slot-len .ensures)
+    (c .before .before .before .before .if4 .left) _ (c .before .before .write-padded .ensures)
+
+pub buffer-sub-data-spec : {M : Type 1} → statement M
+buffer-sub-data-spec =
+    tie.close
+    (tie.spec (λ c κs. search needs) returns returns-2 (λ c κs. search needs) returns-3 (λ c κs. search needs) slot-len-requires (λ c. search needs) (λ c. search needs) returns-4 mul-write-padded add-write-padded write-padded-requires (λ c. search needs) returns-5)

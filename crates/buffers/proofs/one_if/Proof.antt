@@ -1,0 +1,12 @@
+use borrow.Author.Tests.{lt-ltb, le-ltb}
+use Rattle.buffers.proofs.one_if.Statement.{statement}
+use Rattle.buffers.proofs.one_if.Tie as tie
+
+returns : tie.Need-returns
+returns c = simp (lt-ltb 0 (c .before .args .name) (c .if1 .taken))
+
+returns-2 : tie.Need-returns-2
+returns-2 c = simp (le-ltb 0 (c .before .args .name) (c .if1 .left))
+
+pub one-if-spec : {M : Type 1} → statement M
+one-if-spec = tie.close (tie.spec returns returns-2)

@@ -1,0 +1,56 @@
+-- `sound` decides soundness: every slot before k is sound.
+use Prim.Native.Nat.{ℕ, _≤_, _<_, _-_}
+use mathlib.Core.Path.{_≡_}
+use native.Mathlib.Omega.{arith}
+use borrow.Author.Tests.{not-true, not-false}
+use borrow.Author.Count.{below-more}
+use lib.ListN.{length, length-map}
+use Rattle.buffers.specs.Objects.{SlotSound}
+use Rattle.buffers.proofs.Deciding.{slot-facts, sound-facts, sound-fails}
+use Rattle.buffers.proofs.sound.Statement.{statement}
+use Rattle.buffers.proofs.sound.Tie as tie
+
+abbrev Inv-loop : tie.InvT-loop
+Inv-loop b k₀ k = (k ≤ 16) × ((j : ℕ) → j < k → SlotSound b j)
+
+abbrev μ-loop : tie.MeasureT-loop
+μ-loop b k₀ k = 16 - k
+
+sized : (c : tie.Start Inv-loop μ-loop) → length (c .args .b .slots) ≡ 16
+sized c = rw length-map at (c .good .0 .1 .1 .0 .1 .0 .1)
+
+loop-holds : tie.Need-loop-holds Inv-loop μ-loop
+loop-holds c = (omega arith, λ j h. absurd (omega arith))
+
+slot-sound-requires : tie.Need-slot-sound-requires Inv-loop μ-loop
+slot-sound-requires c κs = omega arith
+
+returns : tie.Need-returns Inv-loop μ-loop
+returns c =
+    sound-fails _ (sized (c .before .before .before .before))
+    (λ s. c .before .slot-sound .ensures .no (not-true _ (c .if1 .taken)) (slot-facts _ s (c .before .before .before .loop .k) (c .before .before .loop-test .taken)))
+
+add-k : tie.Need-add-k Inv-loop μ-loop
+add-k c = omega arith
+
+loop-less : tie.Need-loop-less Inv-loop μ-loop
+loop-less c = omega arith
+
+loop-again : tie.Need-loop-again Inv-loop μ-loop
+loop-again c = (omega arith, below-more _ _ (c .before .before .before .loop .inv .1) (c .before .slot-sound .ensures .yes (not-false _ (c .if1 .left))))
+
+returns-2 : tie.Need-returns-2 Inv-loop μ-loop
+returns-2 c = sound-fails _ (sized (c .before .before .before .before)) (λ s. c .before .bindable-name .ensures .no (not-true _ (c .if2 .taken)) (s .array-live))
+
+returns-3 : tie.Need-returns-3 Inv-loop μ-loop
+returns-3 c =
+    record {
+      yes = λ e. sound-facts (c .before .before .before .before .before .args .b) (λ j h. c .before .before .before .before .loop .inv .1 j (omega arith)) (c .before .before .bindable-name .ensures .yes (not-false _ (c .before .if2 .left))) (c .bindable-name2 .ensures .yes e);
+      no = λ e s. c .bindable-name2 .ensures .no e (s .element-live);
+      slots = sized (c .before .before .before .before .before);
+    }
+
+pub sound-spec : {M : Type 1} → statement M
+sound-spec =
+    tie.close
+    (tie.spec Inv-loop μ-loop loop-holds slot-sound-requires returns add-k loop-less loop-again (λ c κs. tt) returns-2 (λ c κs. tt) returns-3)
