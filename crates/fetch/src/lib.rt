@@ -1,12 +1,14 @@
 // Client arrays: the address of an element, its bytes, and its components.
 use buffers::Buffers;
+use buffers::SLOT_BYTES;
+use buffers::SLOT_COUNT;
 ghost use mathlib.Core.Path.{_≡_};
 ghost use mathlib.Core.Bool.{cond};
 ghost use lib.Dec.{eqb};
 ghost use Prim.Native.Nat.{ℕ, _+_, _-_, _*_, _^_, _<_, _≤_, min};
 ghost use lib.ListN.{length, take, drop};
 ghost use Rattle.number.specs.Numbers.{le};
-ghost use Rattle.buffers.specs.Objects.{contentsOf, lenAt};
+ghost use Rattle.buffers.specs.Objects.{slotCount, slotBytes, contentsOf, lenAt};
 ghost use Rattle.fetch.specs.Decode.{componentBytes, unsignedComponent, signedComponent, componentOf, component, vectorOf, OneTwoFour};
 ghost use Rattle.fetch.specs.Fetch.{freshArray, addressOf, fetched, inBuffer, inGuest, partOf, sourceOf, Located};
 
@@ -89,6 +91,9 @@ fn element_stride(stride: u64, len: u64) -> u64
     stride
 }
 
+// The largest address, and the largest product on the way to it.
+pub const LAST_ADDRESS: u64 = 0xffff_ffff;
+
 // The address of an element. The products of two u32 are whole in 64 bits.
 pub fn address_of(array: ArrayPointer, index: u32) -> Address
     ensures { λ r. ⌜ r ≡ addressOf array index ⌝ }
@@ -98,16 +103,16 @@ pub fn address_of(array: ArrayPointer, index: u32) -> Address
         return Address::UnknownType;
     }
     let len = width * (array.size as u64);
-    if 4294967295 < len {
+    if LAST_ADDRESS < len {
         return Address::Overflow;
     }
     let stride = element_stride(array.stride as u64, len);
     let step = stride * (index as u64);
-    if 4294967295 < step {
+    if LAST_ADDRESS < step {
         return Address::Overflow;
     }
     let address = (array.pointer as u64) + step;
-    if 4294967295 < address {
+    if LAST_ADDRESS < address {
         return Address::Overflow;
     }
     Address::At(address as u32, len as u32)
@@ -115,14 +120,14 @@ pub fn address_of(array: ArrayPointer, index: u32) -> Address
 
 // How many of slot k's bytes a store of n bytes holds.
 fn bytes_in_slot(b: Buffers, n: usize, k: usize) -> usize
-    requires { ⌜ k < 16 ⌝ }
-    ensures { λ r. ⌜ r ≡ min (lenAt (b .slots) k) (n - 4096 * k) ⌝ }
+    requires { ⌜ k < slotCount ⌝ }
+    ensures { λ r. ⌜ r ≡ min (lenAt (b .slots) k) (n - slotBytes * k) ⌝ }
 {
     let len = buffers::slot_len(b, k) as usize;
-    if n <= 4096 * k {
+    if n <= SLOT_BYTES * k {
         return 0;
     }
-    let room = n - 4096 * k;
+    let room = n - SLOT_BYTES * k;
     if room < len {
         return room;
     }
@@ -137,7 +142,7 @@ pub fn find_in_buffer(b: Buffers, store: &[u8], buffer: u32, address: u32, len: 
         return Place::NoBuffer;
     }
     let k = buffers::find_slot(b, buffer);
-    if 16 <= k {
+    if SLOT_COUNT <= k {
         return Place::NoBuffer;
     }
     let held = bytes_in_slot(b, store.len(), k);
@@ -151,7 +156,7 @@ pub fn find_in_buffer(b: Buffers, store: &[u8], buffer: u32, address: u32, len: 
     if len == 0 {
         return Place::At(0);
     }
-    Place::At(4096 * k + at)
+    Place::At(SLOT_BYTES * k + at)
 }
 
 // Where a guest range lies in the guest bytes.
