@@ -1,0 +1,12 @@
+-- `stack::MatrixStack::rotate` meets its contract: its callees' contracts, one after the other.
+use borrow.Author.Needs.{needs}
+use Rattle.stack.specs.Stack.{stackAnswer, multiplyAnswer}
+use Rattle.stack.proofs.MatrixStack.rotate.Statement.{statement}
+use Rattle.stack.proofs.MatrixStack.rotate.Tie as tie
+
+returns : tie.Need-returns
+unfolding stackAnswer multiplyAnswer
+returns c = rw (c .before .rotate .ensures) at (c .multiply-unless .ensures)
+
+pub rotate-spec : {M : Type 1} → statement M
+rotate-spec = tie.close (tie.spec (λ c κs. search needs) (λ c κs. search needs) returns)
