@@ -8,7 +8,8 @@ use native.Mathlib.Omega.{arith}
 use lib.Dec.{ltb}
 use lib.ListN.{length}
 use borrow.Author.Tests.{ltb-true, ltb-false}
-use Rattle.buffers.specs.Objects.{nameAt, slotOf, Bindable, Sound, SoundIs, SlotSound, Decides}
+use Rattle.number.specs.Decides.{Decides}
+use Rattle.buffers.specs.Objects.{nameAt, slotOf, Bindable, Sound, SoundIs, SlotSound}
 use Rattle.buffers.specs.declared.Slot.{Slot}
 use Rattle.buffers.specs.declared.Buffers.{Buffers}
 use Rattle.buffers.proofs.Bounds.{never}
@@ -21,7 +22,7 @@ pub fails : {P : Type 0} → (P → ⊥) → Decides P false
 fails n = record { yes = λ e. never false e refl; no = λ e. n }
 
 pub sound-fails : (b : Buffers) → length (b .slots) ≡ 16 → (Sound b → ⊥) → SoundIs b false
-sound-fails b sized n = record { yes = λ e. never false e refl; no = λ e. n; slots = sized }
+sound-fails b sized n = record { decides = fails n; slots = sized }
 
 pub slot-facts : (b : Buffers) → Sound b → (k : ℕ) → k < 16 → SlotSound b k
 slot-facts b sound k h =

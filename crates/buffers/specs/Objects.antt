@@ -7,6 +7,7 @@ use mathlib.Core.Option.{Option, some, none}
 use mathlib.Core.Path.{_≡_}
 use lib.ListN.{length, getD, take, drop, set, replicate}
 use lib.Dec.{eqb, ltb, leb}
+use Rattle.number.specs.Decides.{Decides}
 use Rattle.buffers.specs.Bounded.{first, count}
 use Rattle.buffers.specs.declared.Slot.{Slot}
 use Rattle.buffers.specs.declared.Buffers.{Buffers}
@@ -103,10 +104,9 @@ pub record Sound (b : Buffers) : Type 0 where
   pub array-live : Bindable (b .slots) (b .«array_buffer»)
   pub element-live : Bindable (b .slots) (b .«element_buffer»)
 
--- the code's test of soundness decides it
+-- the code's test of soundness decides it; `slots` is true of all buffers that a program holds: the array has its length
 pub record SoundIs (b : Buffers) (r : Bool) : Type 0 where
-  pub yes : r ≡ true → Sound b
-  pub no : r ≡ false → Sound b → ⊥
+  pub decides : Decides (Sound b) r
   pub slots : length (b .slots) ≡ slotCount
 
 -- fresh buffers are sound, and their objects are fresh over any store
@@ -265,11 +265,6 @@ bufferSubData o target at bytes =
 -- how many slots are in use: as many as names live (`live-law` in proofs/Laws.antt)
 unfoldable pub liveIn : List Slot → ℕ
 liveIn slots = count slotCount (λ k. ltb 0 (nameAt slots k))
-
--- a test's answer decides P
-pub record Decides (P : Type 0) (r : Bool) : Type 0 where
-  pub yes : r ≡ true → P
-  pub no : r ≡ false → P → ⊥
 
 -- slot k is free, or within the limits and the first with its name
 pub record SlotSound (b : Buffers) (k : ℕ) : Type 0 where

@@ -4,7 +4,8 @@ ghost use mathlib.Core.Bool.{true, cond};
 ghost use Prim.Native.Nat.{ℕ, _+_, _<_, _≤_, max};
 ghost use lib.ListN.{length, getD};
 ghost use lib.Dec.{eqb, ltb};
-ghost use Rattle.buffers.specs.Objects.{slotCount, lastName, slotOf, withSlot, lenAt, Bindable, Sound, SoundIs, SlotSound, Decides, IsFresh, objects, Made, Answers, bindBuffer, AnswersIn, bufferData, bufferSubData, padded, overwrite, isTarget, boundAt, deleteName, Steps, deleteBuffers, Generates, liveIn};
+ghost use Rattle.number.specs.Decides.{Decides};
+ghost use Rattle.buffers.specs.Objects.{slotCount, lastName, slotOf, withSlot, lenAt, Bindable, Sound, SoundIs, SlotSound, IsFresh, objects, Made, Answers, bindBuffer, AnswersIn, bufferData, bufferSubData, padded, overwrite, isTarget, boundAt, deleteName, Steps, deleteBuffers, Generates, liveIn};
 
 // Limits: slots, bytes of a slot's block, bytes of the store, and the number that no name reaches.
 pub const SLOT_COUNT: usize = 16;

@@ -1,5 +1,5 @@
 -- The matrix stack (01: "Records", "Matrices", "Strands and fold").
-use mathlib.Core.Bool.{Bool, true, false, cond}
+use mathlib.Core.Bool.{cond}
 use mathlib.Core.List.{List, [], _∷_, _++_}
 use mathlib.Core.Path.{_≡_}
 use Prim.Native.Nat.{ℕ, _+_, _-_, _≤_}
@@ -19,11 +19,6 @@ limit = 15
 pub record Sound (s : MatrixStack) : Type 0 where
   pub places : length (s .saved) ≡ limit
   pub within : s .depth ≤ limit
-
--- a test that decides it
-pub record SoundIs (s : MatrixStack) (b : Bool) : Type 0 where
-  pub yes : b ≡ true → Sound s
-  pub no : b ≡ false → Sound s → ⊥
 
 -- ---- the calls on a stack
 

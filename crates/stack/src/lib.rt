@@ -1,6 +1,7 @@
 // The matrix stack by value: a current matrix and the saved ones.
 ghost use mathlib.Core.Path.{_≡_};
-ghost use Rattle.stack.specs.Stack.{SoundIs, MatrixCall, MatrixUpdate, stackAnswer, multiplyAnswer, freshStack};
+ghost use Rattle.number.specs.Decides.{Decides};
+ghost use Rattle.stack.specs.Stack.{Sound, MatrixCall, MatrixUpdate, stackAnswer, multiplyAnswer, freshStack};
 
 // 16 f32, column by column.
 pub struct Matrix {
@@ -66,7 +67,7 @@ impl MatrixStack {
 
     // Whether at most the allowed matrices are saved.
     pub fn is_sound(self) -> bool
-        ensures { λ r. ⌜ SoundIs self r ⌝ }
+        ensures { λ r. ⌜ Decides (Sound self) r ⌝ }
     {
         self.depth <= SAVED_LIMIT
     }

@@ -6,10 +6,10 @@ use Rattle.buffers.proofs.bind_buffer.Statement.{statement}
 use Rattle.buffers.proofs.bind_buffer.Tie as tie
 
 valid : (c : tie.Else1) → Sound (c .before .before .args .b)
-valid c = c .before .sound .ensures .yes (not-false _ (c .if1 .left))
+valid c = c .before .sound .ensures .decides .yes (not-false _ (c .if1 .left))
 
 returns : tie.Need-returns
-returns c = answers-unsound _ _ (c .before .sound .ensures .no (not-true _ (c .if1 .taken)))
+returns c = answers-unsound _ _ (c .before .sound .ensures .decides .no (not-true _ (c .if1 .taken)))
 
 returns-2 : tie.Need-returns-2
 returns-2 c = bind-last _ (valid (c .before)) _ _ (c .if2 .taken)

@@ -11,7 +11,7 @@ use Rattle.buffers.proofs.buffer_sub_data.Statement.{statement}
 use Rattle.buffers.proofs.buffer_sub_data.Tie as tie
 
 valid : (c : tie.Else1) → Sound (c .before .before .before .before .args .b)
-valid c = c .before .sound .ensures .yes (not-false _ (c .if1 .left))
+valid c = c .before .sound .ensures .decides .yes (not-false _ (c .if1 .left))
 
 bound : (c : tie.After-bound-name) → c .bound-name .result ≡ boundAt (objects (c .before .before .before .before .before .before .args .b) (now (c .before .before .before .before .before .before .args .store))) (c .before .before .before .before .before .before .args .target)
 bound c = c .bound-name .ensures (now (c .before .before .before .before .before .before .args .store))
@@ -31,7 +31,7 @@ room c =
     )
 
 returns : tie.Need-returns
-returns c = in-invalid _ _ _ (λ s e. c .before .sound .ensures .no (not-true _ (c .if1 .taken)) s)
+returns c = in-invalid _ _ _ (λ s e. c .before .sound .ensures .decides .no (not-true _ (c .if1 .taken)) s)
 
 returns-2 : tie.Need-returns-2
 returns-2 c = in-invalid _ _ _ (λ s. c .if2 .taken)

@@ -21,10 +21,10 @@ abbrev μ-loop : tie.MeasureT-loop
 μ-loop names out₀ i₀ out i = length names - i
 
 valid : (c : tie.Else1 Inv-loop μ-loop) → Sound (c .before .before .before .args .b)
-valid c = c .before .sound .ensures .yes (not-false _ (c .if1 .left))
+valid c = c .before .sound .ensures .decides .yes (not-false _ (c .if1 .left))
 
 returns : tie.Need-returns Inv-loop μ-loop
-returns c = answers-unsound _ _ (c .before .sound .ensures .no (not-true _ (c .if1 .taken)))
+returns c = answers-unsound _ _ (c .before .sound .ensures .decides .no (not-true _ (c .if1 .taken)))
 
 loop-holds : tie.Need-loop-holds Inv-loop μ-loop
 loop-holds c = (omega arith, λ s. refl, valid c)

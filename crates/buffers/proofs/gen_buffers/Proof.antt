@@ -20,7 +20,7 @@ abbrev μ-loop : tie.MeasureT-loop
 μ-loop b n live out₀ left₀ out left = left
 
 valid : (c : tie.Else1 Inv-loop μ-loop) → Sound (c .before .before .args .b)
-valid c = c .before .sound .ensures .yes (not-false _ (c .if1 .left))
+valid c = c .before .sound .ensures .decides .yes (not-false _ (c .if1 .left))
 
 live : (c : tie.After-live-count Inv-loop μ-loop) (s : List ℕ) → c .live-count .result ≡ liveNames (objects (c .before .before .before .before .args .b) s)
 live c s = c .live-count .ensures .0 ∙ live-law (c .before .before .before .before .args .b) (valid (c .before .before)) s
@@ -29,7 +29,7 @@ few : (c : tie.Else3 Inv-loop μ-loop) (s : List ℕ) → liveNames (objects (c 
 few c s = omega (arith, live (c .before) s, c .if3 .left)
 
 returns : tie.Need-returns Inv-loop μ-loop
-returns c = record { answers = answers-unsound _ _ (c .before .sound .ensures .no (not-true _ (c .if1 .taken))); names = refl }
+returns c = record { answers = answers-unsound _ _ (c .before .sound .ensures .decides .no (not-true _ (c .if1 .taken))); names = refl }
 
 returns-2 : tie.Need-returns-2 Inv-loop μ-loop
 returns-2 c = record { answers = answers-same _ _ (valid (c .before)) 4 (λ s. gen-full _ _ (omega arith)); names = refl }

@@ -45,8 +45,11 @@ returns-2 c = sound-fails _ (sized (c .before .before .before .before)) (λ s. c
 returns-3 : tie.Need-returns-3 Inv-loop μ-loop
 returns-3 c =
     record {
-      yes = λ e. sound-facts (c .before .before .before .before .before .args .b) (λ j h. c .before .before .before .before .loop .inv .1 j (omega arith)) (c .before .before .bindable-name .ensures .yes (not-false _ (c .before .if2 .left))) (c .bindable-name2 .ensures .yes e);
-      no = λ e s. c .bindable-name2 .ensures .no e (s .element-live);
+      decides =
+          record {
+            yes = λ e. sound-facts (c .before .before .before .before .before .args .b) (λ j h. c .before .before .before .before .loop .inv .1 j (omega arith)) (c .before .before .bindable-name .ensures .yes (not-false _ (c .before .if2 .left))) (c .bindable-name2 .ensures .yes e);
+            no = λ e s. c .bindable-name2 .ensures .no e (s .element-live);
+          };
       slots = sized (c .before .before .before .before .before);
     }
 
