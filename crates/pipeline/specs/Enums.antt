@@ -4,6 +4,7 @@ use mathlib.Core.List.{List, [], _∷_, _++_}
 use mathlib.Core.Option.{Option, some, none, Option·getD}
 use Prim.Native.Nat.{ℕ}
 use lib.Dec.{eqb, leb}
+use Rattle.number.specs.Tables.{Row, _names_, lookup}
 use Rattle.pipeline.specs.declared.CompareFunc.{CompareFunc}
 use Rattle.pipeline.specs.declared.BlendFactor.{BlendFactor}
 use Rattle.pipeline.specs.declared.CullMode.{CullMode}
@@ -18,16 +19,6 @@ use Rattle.pipeline.specs.declared.CullChoice.{CullChoice}
 use Rattle.pipeline.specs.declared.FaceChoice.{FaceChoice}
 use Rattle.pipeline.specs.declared.FogChoice.{FogChoice}
 use Rattle.pipeline.specs.declared.EnvChoice.{EnvChoice}
-
--- a row of a table: a number, and what it stands for
-pub data Row (A : Type 0) : Type 0 where
-  _names_ : ℕ → A → Row A
-
-infix 70 _names_
--- what a number stands for; none where no row has it
-abbrev pub lookup : {A : Type 0} → List (Row A) → ℕ → Option A
-lookup [] n = none
-lookup ((code names a) ∷ rows) n = cond (eqb n code) (some a) (lookup rows n)
 
 abbrev pub compareFuncs : List (Row CompareFunc)
 compareFuncs =

@@ -24,7 +24,8 @@ use Rattle.pipeline.specs.declared.FogState.{FogState}
 use Rattle.pipeline.specs.declared.TextureUnit.{TextureUnit}
 use Rattle.pipeline.specs.declared.Pipeline.{Pipeline}
 use Rattle.pipeline.specs.declared.PipelineAnswer.{PipelineAnswer}
-use Rattle.pipeline.specs.Enums.{lookup, compareFuncs, blendFactors, cullModes, frontFaces, fogModes, texEnvModes, fogParameterOf, capabilityOf}
+use Rattle.number.specs.Tables.{lookup}
+use Rattle.pipeline.specs.Enums.{compareFuncs, blendFactors, cullModes, frontFaces, fogModes, texEnvModes, fogParameterOf, capabilityOf}
 
 -- ---- at first
 

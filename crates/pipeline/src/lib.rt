@@ -1,6 +1,7 @@
 // The pipeline settings: the record, what it is at first, and one function for each call that sets a part of it.
 ghost use mathlib.Core.Path.{_≡_};
-ghost use Rattle.pipeline.specs.Enums.{lookup, compareFuncs, blendFactors, cullModes, frontFaces, fogModes, texEnvModes, compareOf, blendOf, cullOf, faceOf, fogOf, envOf, capabilityOf, fogParameterOf};
+ghost use Rattle.number.specs.Tables.{lookup};
+ghost use Rattle.pipeline.specs.Enums.{compareFuncs, blendFactors, cullModes, frontFaces, fogModes, texEnvModes, compareOf, blendOf, cullOf, faceOf, fogOf, envOf, capabilityOf, fogParameterOf};
 ghost use Rattle.pipeline.specs.Pipeline.{freshUnit, freshPipeline, done, refused, answered, activeUnit, putUnit, fogSet, pipelineStep, activeTexture, capability, texEnv, texEnvColor, depthFunc, depthRange, alphaFunc, blendFunc, cullFace, frontFace, fog};
 
 // What depth and alpha are compared by.

@@ -3,7 +3,7 @@ use Rattle.pipeline.specs.Pipeline.{freshUnit}
 use mathlib.Core.Path.{_≡_}
 use native.Mathlib.Omega.{arith}
 use lib.ListN.{length, List·getD-eq-default}
-use Rattle.pipeline.proofs.Lists.{getD-any, length-mapped}
+use Rattle.number.proofs.Lists.{getD-any, length-mapped}
 use borrow.Author.Needs.{needs}
 use Rattle.pipeline.proofs.active_unit.Statement.{statement}
 use Rattle.pipeline.proofs.active_unit.Tie as tie

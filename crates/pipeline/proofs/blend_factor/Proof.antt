@@ -1,7 +1,7 @@
 -- `pipeline::blend_factor` meets its contract: each arm is a row of the table, and the last has none.
 use mathlib.Core.Path.{sym}
 use Rattle.pipeline.specs.Enums.{blendFactors}
-use Rattle.pipeline.proofs.Tables.{misses}
+use Rattle.number.proofs.Tables.{misses}
 use Rattle.pipeline.proofs.blend_factor.Statement.{statement}
 use Rattle.pipeline.proofs.blend_factor.Tie as tie
 

@@ -8,7 +8,7 @@ use borrow.Author.Tests.{le-leb, lt-leb}
 use Rattle.pipeline.specs.declared.Capability.{Capability}
 use Rattle.pipeline.specs.Enums.{switches, ignored, inIgnoredRange, capabilityOf}
 use Rattle.pipeline.proofs.Laws.{in-range}
-use Rattle.pipeline.proofs.Tables.{codes, misses, apart, of-each}
+use Rattle.number.proofs.Tables.{codes, misses, apart, of-each}
 use Rattle.pipeline.proofs.capability_of.Statement.{statement}
 use Rattle.pipeline.proofs.capability_of.Tie as tie
 

@@ -1,7 +1,7 @@
 -- `pipeline::compare_func` meets its contract: each arm is a row of the table, and the last has none.
 use mathlib.Core.Path.{sym}
 use Rattle.pipeline.specs.Enums.{compareFuncs}
-use Rattle.pipeline.proofs.Tables.{misses}
+use Rattle.number.proofs.Tables.{misses}
 use Rattle.pipeline.proofs.compare_func.Statement.{statement}
 use Rattle.pipeline.proofs.compare_func.Tie as tie
 

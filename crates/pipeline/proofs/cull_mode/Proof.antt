@@ -1,7 +1,7 @@
 -- `pipeline::cull_mode` meets its contract: each arm is a row of the table, and the last has none.
 use mathlib.Core.Path.{sym}
 use Rattle.pipeline.specs.Enums.{cullModes}
-use Rattle.pipeline.proofs.Tables.{misses}
+use Rattle.number.proofs.Tables.{misses}
 use Rattle.pipeline.proofs.cull_mode.Statement.{statement}
 use Rattle.pipeline.proofs.cull_mode.Tie as tie
 

@@ -1,7 +1,7 @@
 -- `pipeline::fog_mode` meets its contract: each arm is a row of the table, and the last has none.
 use mathlib.Core.Path.{sym}
 use Rattle.pipeline.specs.Enums.{fogModes}
-use Rattle.pipeline.proofs.Tables.{misses}
+use Rattle.number.proofs.Tables.{misses}
 use Rattle.pipeline.proofs.fog_mode.Statement.{statement}
 use Rattle.pipeline.proofs.fog_mode.Tie as tie
 

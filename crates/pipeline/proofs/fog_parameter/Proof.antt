@@ -1,6 +1,6 @@
 -- `pipeline::fog_parameter` meets its contract: each arm is a row of the table, and the last has none.
 use Rattle.pipeline.specs.Enums.{fogParameters}
-use Rattle.pipeline.proofs.Tables.{misses}
+use Rattle.number.proofs.Tables.{misses}
 use Rattle.pipeline.proofs.fog_parameter.Statement.{statement}
 use Rattle.pipeline.proofs.fog_parameter.Tie as tie
 

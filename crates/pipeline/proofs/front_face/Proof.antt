@@ -1,7 +1,7 @@
 -- `pipeline::front_face` meets its contract: each arm is a row of the table, and the last has none.
 use mathlib.Core.Path.{sym}
 use Rattle.pipeline.specs.Enums.{frontFaces}
-use Rattle.pipeline.proofs.Tables.{misses}
+use Rattle.number.proofs.Tables.{misses}
 use Rattle.pipeline.proofs.front_face.Statement.{statement}
 use Rattle.pipeline.proofs.front_face.Tie as tie
 

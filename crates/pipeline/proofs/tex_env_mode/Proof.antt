@@ -1,7 +1,7 @@
 -- `pipeline::tex_env_mode` meets its contract: each arm is a row of the table, and the last has none.
 use mathlib.Core.Path.{sym}
 use Rattle.pipeline.specs.Enums.{texEnvModes}
-use Rattle.pipeline.proofs.Tables.{misses}
+use Rattle.number.proofs.Tables.{misses}
 use Rattle.pipeline.proofs.tex_env_mode.Statement.{statement}
 use Rattle.pipeline.proofs.tex_env_mode.Tie as tie
 

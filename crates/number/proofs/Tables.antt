@@ -6,7 +6,7 @@ use mathlib.Core.Logic.{inl, inr, ⊎-elim}
 use Prim.Native.Nat.{ℕ}
 use borrow.Author.Tests.{ne-eqb}
 use types.Run.{OneOf}
-use Rattle.pipeline.specs.Enums.{Row, _names_, lookup}
+use Rattle.number.specs.Tables.{Row, _names_, lookup}
 
 -- what the last arm knows, where each arm before it has one row's number
 abbrev pub NoneOf : {A : Type 0} → Type 0 → List (Row A) → ℕ → Type 0
