@@ -1,0 +1,12 @@
+-- `arrays::set_normal_pointer` meets its contract, from what `set_pointer` ensures.
+use Rattle.arrays.specs.Arrays.{accepted, arrayStep}
+use borrow.Author.Needs.{needs}
+use Rattle.arrays.proofs.set_normal_pointer.Statement.{statement}
+use Rattle.arrays.proofs.set_normal_pointer.Tie as tie
+
+returns : tie.Need-returns
+unfolding arrayStep accepted
+returns c = c .set-pointer .ensures
+
+pub set-normal-pointer-spec : {M : Type 1} → statement M
+set-normal-pointer-spec = tie.close (tie.spec (λ c κs. search needs) returns)
