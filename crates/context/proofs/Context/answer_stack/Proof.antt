@@ -1,0 +1,16 @@
+-- `context::Context::answer_stack` meets its contract: the context is asked first.
+use borrow.Author.Tests.{not-true, not-false}
+use Rattle.context.proofs.Entries.{settled, settled-unsound}
+use borrow.Author.Needs.{needs}
+use Rattle.context.proofs.Context.answer_stack.Statement.{statement}
+use Rattle.context.proofs.Context.answer_stack.Tie as tie
+
+returns : tie.Need-returns
+returns c = settled-unsound (c .before .is-sound .ensures .no (not-true _ (c .if1 .taken)))
+
+returns-2 : tie.Need-returns-2
+returns-2 c = settled (c .before .before .before .before .before .is-sound .ensures .yes (not-false _ (c .before .before .before .before .if1 .left))) (rw (c .slot-after .ensures, c .before .put-stack .ensures))
+
+pub answer-stack-spec : {M : Type 1} → statement M
+answer-stack-spec =
+    tie.close (tie.spec (λ c κs. search needs) returns (λ c κs. search needs) (λ c κs. search needs) returns-2)

@@ -1,0 +1,355 @@
+-- From what the inner functions ensure to an entry's contract: one law for each group of calls. Assumes nothing.
+use mathlib.Core.Bool.{Bool, true, false, cond}
+use mathlib.Core.List.{List}
+use mathlib.Core.Logic.{inl, inr, ⊎-elim}
+use mathlib.Core.Option.{some, none}
+use mathlib.Core.Path.{_≡_, refl, sym, ap, subst, _∙_}
+use Prim.Native.Nat.{ℕ, _+_, _<_}
+use native.Mathlib.Omega.{arith}
+use lib.Dec.{ltb}
+use Rattle.number.specs.Decides.{Decides}
+use Rattle.number.specs.Tables.{lookup}
+use Rattle.stack.specs.Stack as stack
+use Rattle.stack.specs.declared.MatrixStack.{MatrixStack}
+use Rattle.stack.specs.declared.StackAnswer.{StackAnswer}
+use Rattle.stack.proofs.Stacks.{follows, stack-stays, fresh-sound, fresh-state}
+use Rattle.buffers.specs.Objects as buffer
+use Rattle.buffers.specs.declared.Buffers.{Buffers}
+use Rattle.buffers.proofs.Bounds.{never, same?}
+use Rattle.arrays.specs.Arrays.{unitCount, ArrayCall, arrayStep, freshArrays}
+use Rattle.arrays.specs.Attributes.{AttributeCall, attributeStep, freshAttributes}
+use Rattle.arrays.specs.declared.Arrays.{Arrays}
+use Rattle.arrays.specs.declared.ArraysAnswer.{ArraysAnswer}
+use Rattle.arrays.specs.declared.Attributes.{Attributes}
+use Rattle.arrays.specs.declared.AttributesAnswer.{AttributesAnswer}
+use Rattle.arrays.proofs.Laws.{array-keeps, attribute-keeps, client-stays}
+use Rattle.pipeline.specs.Pipeline.{PipelineCall, pipelineStep, freshPipeline}
+use Rattle.pipeline.specs.declared.Pipeline.{Pipeline}
+use Rattle.pipeline.specs.declared.PipelineAnswer.{PipelineAnswer}
+use Rattle.pipeline.proofs.Laws.{refusal-keeps, active-stays}
+use Rattle.context.specs.declared.MatrixMode.{MatrixMode}
+use Rattle.context.specs.declared.Stacks.{Stacks}
+use Rattle.context.specs.declared.Context.{Context}
+use Rattle.context.specs.declared.Reply.{Reply}
+use Rattle.context.specs.State.{stackAt, view, Sound, SoundApart, Fresh}
+use Rattle.context.specs.Calls as calls
+use Rattle.context.specs.Calls.{BufferCall, gen, bind, delete, bufferData, bufferSubData, Call, isUpload, isBind, borrowsStore}
+use Rattle.context.specs.Rules.{matrixModes, sameMode, bufferAnswer, slotAfter}
+use Rattle.context.specs.Contract.{putStack, putMode, putStacks, putBuffers, putArrays, putAttributes, putPipeline, putError, noted, Valid, RefusalKeeps, Follows, Did, Does, reply, Settled}
+
+-- ---- soundness
+
+-- a test that says no, of what fails or of what a part of it fails
+pub part-unsound : {P : Type 0} → (P → ⊥) → Decides P false
+part-unsound h = record { yes = λ e. absurd (never false e refl); no = λ _. h }
+
+pub some-unsound : (t : Stacks) (m : MatrixMode) → (stack.Sound (stackAt m t) → ⊥) → Decides ((m : MatrixMode) → stack.Sound (stackAt m t)) false
+some-unsound t m h = part-unsound (λ all. h (all m))
+
+pub all-sound : (t : Stacks) {b : Bool} → stack.Sound (t .modelview) → stack.Sound (t .projection) → Decides (stack.Sound (t .texture)) b
+    → Decides ((m : MatrixMode) → stack.Sound (stackAt m t)) b
+all-sound t p q d = record { yes = λ e. three (d .yes e); no = λ e all. d .no e (all MatrixMode.Texture) }
+  where
+    three : stack.Sound (t .texture) → (m : MatrixMode) → stack.Sound (stackAt m t)
+    three r MatrixMode.Modelview = p
+    three r MatrixMode.Projection = q
+    three r MatrixMode.Texture = r
+
+pub apart-sound : (c : Context) {b : Bool} → c .arrays .«client_active_texture» < unitCount → c .pipeline .«active_texture» < unitCount
+    → Decides ((m : MatrixMode) → stack.Sound (stackAt m (c .stacks))) b → Decides (SoundApart c) b
+apart-sound c p q d = record { yes = λ e. record { stacks = d .yes e; client-unit = p; active-unit = q }; no = λ e h. d .no e (h .stacks) }
+
+pub whole-sound : (c : Context) {b : Bool} → SoundApart c → Decides (buffer.Sound (c .buffers)) b → Decides (Sound c) b
+whole-sound c h d = record { yes = λ e. record { stacks = h .stacks; buffers = d .yes e; client-unit = h .client-unit; active-unit = h .active-unit }; no = λ e w. d .no e (w .buffers) }
+
+-- ---- calls that are not valid
+
+pub apart : {c : Context} → Sound c → SoundApart c
+apart h = record { stacks = h .stacks; client-unit = h .client-unit; active-unit = h .active-unit }
+
+pub unsound-apart : (call : Call) (c : Context) (s : List ℕ) → (SoundApart c → ⊥) → Did call c s 1 c s
+unsound-apart call c s h = record { invalid = λ _. (refl, refl, refl); follows = λ v. absurd (h (apart (v .sound))); size = refl }
+
+pub unsound : (call : Call) (c : Context) (s : List ℕ) → (Sound c → ⊥) → Did call c s 1 c s
+unsound call c s h = record { invalid = λ _. (refl, refl, refl); follows = λ v. absurd (h (v .sound)); size = refl }
+
+-- ---- calls on a sound context that do not borrow the store
+
+pub settled : {c : Context} {r out : Reply} → Sound c → out ≡ r → Settled c r out
+settled h e = record { sound = λ _. e; unsound = λ q. absurd (q h) }
+
+pub settled-unsound : {c : Context} {r : Reply} → (Sound c → ⊥) → Settled c r (reply 1 c)
+settled-unsound h = record { sound = λ q. absurd (h q); unsound = λ _. refl }
+
+module _ (call : Call) (c : Context) (none-borrowed : borrowsStore call ≡ false) where
+  valid : (s : List ℕ) → Sound c → Valid call c s
+  valid s h = record { sound = h; store = λ e. never (borrowsStore call) e none-borrowed }
+
+  pub does : (n : ℕ) (c′ : Context) → Sound c → ((s : List ℕ) → Follows call c s n c′ s) → Does call c n c′
+  does n c′ h f s = record { invalid = λ q. absurd (q (valid s h)); follows = λ v. f s; size = refl }
+
+  settled-does : (r out : Reply) → Settled c r out → (Sound c → (s : List ℕ) → Follows call c s (r .number) (r .context) s) → Does call c (out .number) (out .context)
+  settled-does r out g f s =
+      record {
+        invalid = λ q. let u = g .unsound (λ h. q (valid s h)) in (ap (λ x. x .number) u, ap (λ x. x .context) u, refl);
+        follows = λ v. rw (g .sound (v .sound)) (f (v .sound) s);
+        size = refl;
+      }
+
+-- ---- matrix calls
+
+-- what holds of the new stack and of the two others holds of the three
+put-all : (P : MatrixMode → MatrixStack → Type 0) (now : MatrixMode) (t : Stacks) (u : MatrixStack) → P now u
+    → ((m : MatrixMode) → sameMode m now ≡ false → P m (stackAt m t)) → (m : MatrixMode) → P m (stackAt m (putStack now u t))
+put-all P MatrixMode.Modelview t u new old MatrixMode.Modelview = new
+put-all P MatrixMode.Modelview t u new old MatrixMode.Projection = old MatrixMode.Projection refl
+put-all P MatrixMode.Modelview t u new old MatrixMode.Texture = old MatrixMode.Texture refl
+put-all P MatrixMode.Projection t u new old MatrixMode.Modelview = old MatrixMode.Modelview refl
+put-all P MatrixMode.Projection t u new old MatrixMode.Projection = new
+put-all P MatrixMode.Projection t u new old MatrixMode.Texture = old MatrixMode.Texture refl
+put-all P MatrixMode.Texture t u new old MatrixMode.Modelview = old MatrixMode.Modelview refl
+put-all P MatrixMode.Texture t u new old MatrixMode.Projection = old MatrixMode.Projection refl
+put-all P MatrixMode.Texture t u new old MatrixMode.Texture = new
+
+same-mode : (m : MatrixMode) → sameMode m m ≡ true
+same-mode MatrixMode.Modelview = refl
+same-mode MatrixMode.Projection = refl
+same-mode MatrixMode.Texture = refl
+
+put-same : (m : MatrixMode) (t : Stacks) → putStack m (stackAt m t) t ≡ t
+put-same MatrixMode.Modelview t = refl
+put-same MatrixMode.Projection t = refl
+put-same MatrixMode.Texture t = refl
+
+module _ (k : stack.MatrixCall) (c : Context) (h : Sound c) where
+  abbrev old : MatrixStack
+  old = stackAt (c .mode) (c .stacks)
+
+  abbrev new : StackAnswer
+  new = stack.stackAnswer k (stackAt (c .mode) (c .stacks))
+
+  stack-states : (m : MatrixMode) → stack.stateOf (stackAt m (putStack (c .mode) (new .stack) (c .stacks)))
+      ≡ cond (sameMode m (c .mode)) (stack.stackStep k (stack.stateOf (stackAt m (c .stacks)))) (stack.stateOf (stackAt m (c .stacks)))
+  stack-states =
+      put-all
+      (λ m x. stack.stateOf x ≡ cond (sameMode m (c .mode)) (stack.stackStep k (stack.stateOf (stackAt m (c .stacks)))) (stack.stateOf (stackAt m (c .stacks))))
+      (c .mode) (c .stacks) (new .stack)
+      (rw (same-mode (c .mode)) (follows old (h .stacks (c .mode)) k .1))
+      (λ m e. rw e)
+
+  matrix-follows : (s : List ℕ) → Follows (calls.matrix k) c s (new .number) (noted (new .number) (putStacks (putStack (c .mode) (new .stack) (c .stacks)) c)) s
+  matrix-follows s =
+      let f = follows old (h .stacks (c .mode)) k in
+      record {
+        number = f .0;
+        state = λ i. record {
+          mode = c .mode;
+          stacks = λ m. stack-states m i;
+          objects = view c s .objects;
+          attributes = c .attributes;
+          pipeline = c .pipeline;
+          error = slotAfter (f .0 i) (c .error);
+        };
+        sound = record {
+          stacks = put-all (λ m. stack.Sound) (c .mode) (c .stacks) (new .stack) (f .2) (λ m e. h .stacks m);
+          buffers = h .buffers;
+          client-unit = h .client-unit;
+          active-unit = h .active-unit;
+        };
+        stacks = refl;
+        refusal = λ q. (inl (ap (λ t. noted (new .number) (putStacks t c)) (ap (λ x. putStack (c .mode) x (c .stacks)) (stack-stays k old q) ∙ put-same (c .mode) (c .stacks))), refl);
+      }
+
+pub matrix-does : (k : stack.MatrixCall) (c : Context) (t : MatrixStack) (a : StackAnswer) (out : Reply) → t ≡ stackAt (c .mode) (c .stacks) → a ≡ stack.stackAnswer k t
+    → Settled c (reply (a .number) (noted (a .number) (putStacks (putStack (c .mode) (a .stack) (c .stacks)) c))) out → Does (calls.matrix k) c (out .number) (out .context)
+matrix-does k c t a out d e g =
+    settled-does (calls.matrix k) c refl _ out
+    (subst (λ x. Settled c (reply (x .number) (noted (x .number) (putStacks (putStack (c .mode) (x .stack) (c .stacks)) c))) out) (e ∙ ap (stack.stackAnswer k) d) g)
+    (matrix-follows k c)
+
+-- ---- mode calls
+
+module _ (code : ℕ) (c : Context) (h : Sound c) where
+  pub mode-known : (m : MatrixMode) → some m ≡ lookup matrixModes code → Does (calls.mode code) c 0 (putMode m c)
+  mode-known m e =
+      does (calls.mode code) c refl 0 (putMode m c) h (λ s. record {
+        number = rw (sym e);
+        state = rw (sym e);
+        sound = record { stacks = h .stacks; buffers = h .buffers; client-unit = h .client-unit; active-unit = h .active-unit };
+        stacks = refl;
+        refusal = λ q. absurd (q refl);
+      })
+
+  pub mode-unknown : none ≡ lookup matrixModes code → Does (calls.mode code) c 0x0500 (noted 0x0500 c)
+  mode-unknown e =
+      does (calls.mode code) c refl 0x0500 (noted 0x0500 c) h (λ s. record {
+        number = rw (sym e);
+        state = rw (sym e);
+        sound = record { stacks = h .stacks; buffers = h .buffers; client-unit = h .client-unit; active-unit = h .active-unit };
+        stacks = refl;
+        refusal = λ q. (inl refl, refl);
+      })
+
+-- ---- pointer, client state and client unit calls
+
+pub arrays-do : (k : ArrayCall) (c : Context) (a : ArraysAnswer) (out : Reply) → a ≡ arrayStep k (c .buffers .«array_buffer») (c .arrays)
+    → Settled c (reply (a .number) (noted (a .number) (putArrays (a .arrays) c))) out → Does (calls.object (calls.array k)) c (out .number) (out .context)
+arrays-do k c a out e g =
+    settled-does (calls.object (calls.array k)) c refl _ out (subst (λ x. Settled c (reply (x .number) (noted (x .number) (putArrays (x .arrays) c))) out) e g)
+    (λ h s. record {
+      number = refl;
+      state = refl;
+      sound = record { stacks = h .stacks; buffers = h .buffers; client-unit = client-stays k (c .buffers .«array_buffer») (c .arrays) (h .client-unit); active-unit = h .active-unit };
+      stacks = refl;
+      refusal = λ q. ⊎-elim (λ z. absurd (q z)) (λ z. (inl (ap (λ x. noted (new .number) (putArrays x c)) (z .1)), refl)) (array-keeps k (c .buffers .«array_buffer») (c .arrays));
+    })
+  where
+    new : ArraysAnswer
+    new = arrayStep k (c .buffers .«array_buffer») (c .arrays)
+
+-- ---- calls on the current values
+
+pub attributes-do : (k : AttributeCall) (c : Context) (a : AttributesAnswer) (out : Reply) → a ≡ attributeStep k (c .attributes)
+    → Settled c (reply (a .number) (noted (a .number) (putAttributes (a .attributes) c))) out → Does (calls.attribute k) c (out .number) (out .context)
+attributes-do k c a out e g =
+    settled-does (calls.attribute k) c refl _ out (subst (λ x. Settled c (reply (x .number) (noted (x .number) (putAttributes (x .attributes) c))) out) e g)
+    (λ h s. record {
+      number = refl;
+      state = refl;
+      sound = record { stacks = h .stacks; buffers = h .buffers; client-unit = h .client-unit; active-unit = h .active-unit };
+      stacks = refl;
+      refusal = λ q. ⊎-elim (λ z. absurd (q z)) (λ z. (inl (ap (λ x. noted (new .number) (putAttributes x c)) (z .1)), refl)) (attribute-keeps k (c .attributes));
+    })
+  where
+    new : AttributesAnswer
+    new = attributeStep k (c .attributes)
+
+-- ---- pipeline calls
+
+pub pipeline-does : (k : PipelineCall) (c : Context) (a : PipelineAnswer) (out : Reply) → a ≡ pipelineStep k (c .pipeline)
+    → Settled c (reply (a .number) (noted (a .number) (putPipeline (a .pipeline) c))) out → Does (calls.pipeline k) c (out .number) (out .context)
+pipeline-does k c a out e g =
+    settled-does (calls.pipeline k) c refl _ out (subst (λ x. Settled c (reply (x .number) (noted (x .number) (putPipeline (x .pipeline) c))) out) e g)
+    (λ h s. record {
+      number = refl;
+      state = refl;
+      sound = record { stacks = h .stacks; buffers = h .buffers; client-unit = h .client-unit; active-unit = active-stays k (c .pipeline) (h .active-unit) };
+      stacks = refl;
+      refusal = λ q. ⊎-elim (λ z. absurd (q z)) (λ z. (inl (ap (λ x. noted (new .number) (putPipeline x c)) (z .1)), refl)) (refusal-keeps k (c .pipeline));
+    })
+  where
+    new : PipelineAnswer
+    new = pipelineStep k (c .pipeline)
+
+-- ---- take_error
+
+pub take-error-does : (c : Context) → Sound c → Does calls.takeError c 0 (putError 0 c)
+take-error-does c h =
+    does calls.takeError c refl 0 (putError 0 c) h (λ s. record {
+      number = refl;
+      state = refl;
+      sound = record { stacks = h .stacks; buffers = h .buffers; client-unit = h .client-unit; active-unit = h .active-unit };
+      stacks = refl;
+      refusal = λ q. absurd (q refl);
+    })
+
+-- ---- buffer calls
+
+-- of the calls that do not borrow the store only bind answers 0x0500
+only-bind : (k : BufferCall) (o : buffer.Objects) → isUpload k ≡ false → bufferAnswer k o .number ≡ 0x0500 → isBind k ≡ true
+unfolding buffer.genBuffers
+only-bind (gen n) o e z = absurd (go (ltb 16 (buffer.liveNames o + n)) (ltb 4294967295 (o .next + n)) z)
+  where
+    go : (x y : Bool) → cond x (buffer.answer 4 o) (cond y (buffer.answer 5 o) (buffer.answer 0 (buffer.genNames n o))) .number ≡ 0x0500 → ⊥
+    go true y z = omega arith
+    go false true z = omega arith
+    go false false z = omega arith
+only-bind (bind target name) o e z = refl
+only-bind (delete names) o e z = absurd (omega arith)
+only-bind (bufferData target size bytes usage) o e z = never true refl e
+only-bind (bufferSubData target offset bytes) o e z = never true refl e
+
+module _ (k : BufferCall) (c : Context) (n : ℕ) (b : Buffers) where
+  -- an answer of the buffers is the context's
+  buffer-follows : (s s′ : List ℕ) → Sound c → buffer.answer n (buffer.objects b s′) ≡ bufferAnswer k (buffer.objects (c .buffers) s) → buffer.Sound b
+      → ((n ≡ 0 → ⊥) → RefusalKeeps (calls.object (calls.buffer k)) n c (noted n (putBuffers b c)) × (s′ ≡ s))
+      → Follows (calls.object (calls.buffer k)) c s n (noted n (putBuffers b c)) s′
+  buffer-follows s s′ h e sound kept =
+      record {
+        number = ap (λ x. x .number) e;
+        state = λ i. record {
+          mode = c .mode;
+          stacks = view c s .stacks;
+          objects = record { buffers = e i .after; arrays = c .arrays };
+          attributes = c .attributes;
+          pipeline = c .pipeline;
+          error = slotAfter (e i .number) (c .error);
+        };
+        sound = record { stacks = h .stacks; buffers = sound; client-unit = h .client-unit; active-unit = h .active-unit };
+        stacks = refl;
+        refusal = kept;
+      }
+
+  -- where the buffers stay and the number is 1, so does the context
+  unchanged : n ≡ 1 → b ≡ c .buffers → noted n (putBuffers b c) ≡ c
+  unchanged e f = (λ i. noted (e i) (putBuffers (f i) c))
+
+  module _ (h : SoundApart c) where
+    whole : buffer.Sound (c .buffers) → Sound c
+    whole q = record { stacks = h .stacks; buffers = q; client-unit = h .client-unit; active-unit = h .active-unit }
+
+    pub buffer-does : isUpload k ≡ false → buffer.Answers (c .buffers) (bufferAnswer k) n b → Does (calls.object (calls.buffer k)) c n (noted n (putBuffers b c))
+    buffer-does e a s =
+        record {
+          invalid = λ q. let u = a .unsound (λ p. q (record { sound = whole p; store = λ t. never (isUpload k) t e })) in (u .0, unchanged (u .0) (u .1), refl);
+          follows = λ v. buffer-follows s s (v .sound) (a .ruled (v .sound .buffers) s) (a .kept (v .sound .buffers)) (λ q. (
+            ⊎-elim
+                (λ z. inr (only-bind k _ e (sym (ap (λ x. x .number) (a .ruled (v .sound .buffers) s)) ∙ z), z, refl))
+                (λ z. inl (ap (λ x. noted n (putBuffers x c)) (a .stays q z)))
+                (same? n 0x0500),
+            refl,
+          ));
+          size = refl;
+        }
+
+    pub upload-did : (s s′ : List ℕ) → isUpload k ≡ true → buffer.AnswersIn (c .buffers) s (bufferAnswer k) n b s′ → Did (calls.object (calls.buffer k)) c s n (noted n (putBuffers b c)) s′
+    upload-did s s′ e a =
+        record {
+          invalid = λ q.
+              let u = a .invalid (λ p l. q (record { sound = whole p; store = λ _. l })) in
+              let kept = a .stays (λ z. omega arith) in
+              (u, unchanged u (kept .0), kept .1);
+          follows = λ v. buffer-follows s s′ (v .sound) (a .ruled (v .sound .buffers) (v .store e)) (a .kept (v .sound .buffers))
+              (λ q. (inl (ap (λ x. noted n (putBuffers x c)) (a .stays q .0)), a .stays q .1));
+          size = a .size;
+        }
+
+-- ---- a fresh context
+
+pub new-fresh : (t : MatrixStack) (b : Buffers) (a : Arrays) (v : Attributes) (p : Pipeline) → t ≡ stack.freshStack → buffer.IsFresh b → a ≡ freshArrays → v ≡ freshAttributes
+    → p ≡ freshPipeline
+    → Fresh (record { mode = MatrixMode.Modelview; stacks = record { modelview = t; projection = t; texture = t }; buffers = b; arrays = a; attributes = v; pipeline = p; error = 0 })
+new-fresh t b a v p e f g h q =
+    record {
+      sound = record {
+        stacks = λ m. rw (every m) fresh-sound;
+        buffers = f .sound;
+        client-unit = rw g (omega arith);
+        active-unit = rw q (omega arith);
+      };
+      state = λ s i. record {
+        mode = MatrixMode.Modelview;
+        stacks = λ m. (ap stack.stateOf (every m) ∙ fresh-state) i;
+        objects = record { buffers = f .state s i; arrays = g i };
+        attributes = h i;
+        pipeline = q i;
+        error = 0;
+      };
+      stacks = every;
+    }
+  where
+    every : (m : MatrixMode) → stackAt m (record { modelview = t; projection = t; texture = t }) ≡ stack.freshStack
+    every MatrixMode.Modelview = e
+    every MatrixMode.Projection = e
+    every MatrixMode.Texture = e
+(tie.spec

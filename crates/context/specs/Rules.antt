@@ -1,0 +1,109 @@
+-- What each call answers and makes of the state of a sound context (01: all sections but "Draws").
+use mathlib.Core.Bool.{Bool, true, false, cond, _&&_}
+use mathlib.Core.List.{List, [], _∷_}
+use mathlib.Core.Option.{Option, some, none, Option·getD}
+use Prim.Native.Nat.{ℕ}
+use lib.Dec.{eqb, leb}
+use lib.ListN.{length}
+use Rattle.number.specs.Tables.{Row, _names_, lookup}
+use Rattle.stack.specs.Stack.{StackState, stackNumber, stackStep}
+use Rattle.buffers.specs.Objects as objects
+use Rattle.arrays.specs.Arrays.{arrayStep}
+use Rattle.arrays.specs.Attributes.{attributeStep}
+use Rattle.arrays.specs.declared.Attributes.{Attributes}
+use Rattle.pipeline.specs.Pipeline.{pipelineStep}
+use Rattle.pipeline.specs.declared.Pipeline.{Pipeline}
+use Rattle.context.specs.declared.MatrixMode.{MatrixMode}
+use Rattle.context.specs.State.{ObjectState, State}
+use Rattle.context.specs.Calls.{BufferCall, gen, bind, delete, bufferData, bufferSubData, ObjectCall, buffer, array, Call, matrix, mode, object, attribute, pipeline, takeError}
+
+-- ---- one part of the state replaced
+
+abbrev pub withMode : MatrixMode → State → State
+withMode m s = record { mode = m; stacks = s .stacks; objects = s .objects; attributes = s .attributes; pipeline = s .pipeline; error = s .error }
+
+abbrev pub withStacks : (MatrixMode → StackState) → State → State
+withStacks t s = record { mode = s .mode; stacks = t; objects = s .objects; attributes = s .attributes; pipeline = s .pipeline; error = s .error }
+
+abbrev pub withObjects : ObjectState → State → State
+withObjects o s = record { mode = s .mode; stacks = s .stacks; objects = o; attributes = s .attributes; pipeline = s .pipeline; error = s .error }
+
+abbrev pub withAttributes : Attributes → State → State
+withAttributes a s = record { mode = s .mode; stacks = s .stacks; objects = s .objects; attributes = a; pipeline = s .pipeline; error = s .error }
+
+abbrev pub withPipeline : Pipeline → State → State
+withPipeline p s = record { mode = s .mode; stacks = s .stacks; objects = s .objects; attributes = s .attributes; pipeline = p; error = s .error }
+
+abbrev pub withError : ℕ → State → State
+withError e s = record { mode = s .mode; stacks = s .stacks; objects = s .objects; attributes = s .attributes; pipeline = s .pipeline; error = e }
+
+-- ---- mode calls
+
+abbrev pub matrixModes : List (Row MatrixMode)
+matrixModes = 0x1700 names MatrixMode.Modelview ∷ 0x1701 names MatrixMode.Projection ∷ 0x1702 names MatrixMode.Texture ∷ []
+
+-- an unknown enumerant is refused, and the mode in force stays
+abbrev pub knownNumber : {A : Type 0} → Option A → ℕ
+knownNumber (some a) = 0
+knownNumber none = 0x0500
+
+abbrev pub modeAfter : ℕ → MatrixMode → MatrixMode
+modeAfter code m = Option·getD (lookup matrixModes code) m
+
+abbrev pub sameMode : MatrixMode → MatrixMode → Bool
+sameMode MatrixMode.Modelview MatrixMode.Modelview = true
+sameMode MatrixMode.Modelview MatrixMode.Projection = false
+sameMode MatrixMode.Modelview MatrixMode.Texture = false
+sameMode MatrixMode.Projection MatrixMode.Modelview = false
+sameMode MatrixMode.Projection MatrixMode.Projection = true
+sameMode MatrixMode.Projection MatrixMode.Texture = false
+sameMode MatrixMode.Texture MatrixMode.Modelview = false
+sameMode MatrixMode.Texture MatrixMode.Projection = false
+sameMode MatrixMode.Texture MatrixMode.Texture = true
+
+-- ---- buffer, pointer and client calls
+
+abbrev pub bufferAnswer : BufferCall → objects.Objects → objects.Answer
+bufferAnswer (gen n) o = objects.genBuffers o n
+bufferAnswer (bind target name) o = objects.bindBuffer o target name
+bufferAnswer (delete ns) o = objects.deleteBuffers o ns
+-- the usage word is not kept
+bufferAnswer (bufferData target size bytes usage) o = objects.bufferData o target size bytes
+bufferAnswer (bufferSubData target offset bytes) o = objects.bufferSubData o target offset bytes
+
+abbrev pub objectNumber : ObjectCall → ObjectState → ℕ
+objectNumber (buffer k) o = bufferAnswer k (o .buffers) .number
+objectNumber (array k) o = arrayStep k (o .buffers .array) (o .arrays) .number
+
+-- a buffer call leaves the arrays alone: a deleted name stays in an array's buffer field
+abbrev pub objectStep : ObjectCall → ObjectState → ObjectState
+objectStep (buffer k) o = record { buffers = bufferAnswer k (o .buffers) .after; arrays = o .arrays }
+objectStep (array k) o = record { buffers = o .buffers; arrays = arrayStep k (o .buffers .array) (o .arrays) .arrays }
+
+-- ---- all calls
+
+-- the number that a call answers, 0 for done
+abbrev pub numberOf : Call → State → ℕ
+numberOf (matrix k) s = stackNumber k (length (s .stacks (s .mode) .saved))
+numberOf (mode code) s = knownNumber (lookup matrixModes code)
+numberOf (object k) s = objectNumber k (s .objects)
+numberOf (attribute k) s = attributeStep k (s .attributes) .number
+numberOf (pipeline k) s = pipelineStep k (s .pipeline) .number
+numberOf takeError s = 0
+
+-- what a call makes of the part that it touches: a matrix call touches the stack of the mode in force, take_error empties the error slot
+abbrev pub effect : Call → State → State
+effect (matrix k) s = withStacks (λ m. cond (sameMode m (s .mode)) (stackStep k (s .stacks m)) (s .stacks m)) s
+effect (mode code) s = withMode (modeAfter code (s .mode)) s
+effect (object k) s = withObjects (objectStep k (s .objects)) s
+effect (attribute k) s = withAttributes (attributeStep k (s .attributes) .attributes) s
+effect (pipeline k) s = withPipeline (pipelineStep k (s .pipeline) .pipeline) s
+effect takeError s = withError 0 s
+
+-- the error slot after an answer: it keeps the first code, and only codes from 0x0500 enter it
+abbrev pub slotAfter : ℕ → ℕ → ℕ
+slotAfter number slot = cond (leb 0x0500 number && eqb slot 0) number slot
+
+-- the state after a call
+abbrev pub step : Call → State → State
+step call s = withError (slotAfter (numberOf call s) (effect call s .error)) (effect call s)
