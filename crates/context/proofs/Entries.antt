@@ -352,4 +352,3 @@ new-fresh t b a v p e f g h q =
     every MatrixMode.Modelview = e
     every MatrixMode.Projection = e
     every MatrixMode.Texture = e
-(tie.spec
