@@ -1,33 +1,24 @@
-// The context and the calls that draw nothing. Each entry takes the context by value and gives it back with the call's number.
+// The context: all state but the bytes of the buffers, whether it is sound, and how a part that a call has changed is put back.
 use arrays::Arrays;
 use arrays::ArraysAnswer;
 use arrays::Attributes;
 use arrays::AttributesAnswer;
 use arrays::UNIT_COUNT;
-use buffers::Answered;
 use buffers::Buffers;
 use buffers::INVALID;
-use buffers::INVALID_ENUM;
 use pipeline::Pipeline;
 use pipeline::PipelineAnswer;
 use stack::MatrixStack;
 use stack::StackAnswer;
 ghost use mathlib.Core.Path.{_≡_};
-ghost use mathlib.Core.Bool.{cond};
-ghost use Prim.Native.Nat.{ℕ, _<_};
-ghost use lib.Dec.{eqb};
+ghost use Prim.Native.Nat.{_<_};
 ghost use Rattle.number.specs.Decides.{Decides};
 ghost use Rattle.number.specs.Tables.{lookup};
 ghost use Rattle.stack.specs.Stack as stack;
-ghost use Rattle.stack.specs.Stack.{MatrixCall, MatrixUpdate};
-ghost use Rattle.buffers.specs.Objects.{genFirst};
-ghost use Rattle.arrays.specs.Arrays.{ArrayCall, unitCount};
-ghost use Rattle.arrays.specs.Attributes.{AttributeCall};
-ghost use Rattle.pipeline.specs.Pipeline.{PipelineCall};
+ghost use Rattle.arrays.specs.Arrays.{unitCount};
 ghost use Rattle.context.specs.State.{stackAt, Sound, SoundApart, Fresh};
-ghost use Rattle.context.specs.Calls.{Call, ObjectCall, BufferCall};
 ghost use Rattle.context.specs.Rules.{matrixModes, slotAfter};
-ghost use Rattle.context.specs.Contract.{putStack, putMode, putStacks, putBuffers, putArrays, putAttributes, putPipeline, noted, Did, Does, modeOf, reply, Settled};
+ghost use Rattle.context.specs.Contract.{putStack, putStacks, putBuffers, putArrays, putAttributes, putPipeline, noted, modeOf, reply, Settled};
 
 // The stack that matrix calls go to.
 pub enum MatrixMode {
@@ -74,7 +65,7 @@ pub struct ErrorReply {
 }
 
 // The error slot after an answer: it keeps the first code, and only codes from 0x0500 enter it.
-fn slot_after(number: u32, slot: u32) -> u32
+pub fn slot_after(number: u32, slot: u32) -> u32
     ensures { λ r. ⌜ r ≡ slotAfter number slot ⌝ }
 {
     if number < 0x0500 {
@@ -92,7 +83,7 @@ pub enum ModeChoice {
     Unknown,
 }
 
-fn matrix_mode(code: u32) -> ModeChoice
+pub fn matrix_mode(code: u32) -> ModeChoice
     ensures { λ r. ⌜ modeOf r ≡ lookup matrixModes code ⌝ }
 {
     match code {
@@ -174,7 +165,7 @@ impl Context {
     }
 
     // Whether all but the buffers is sound: these are tested by the functions that take them.
-    fn is_sound_apart(self) -> bool
+    pub fn is_sound_apart(self) -> bool
         ensures { λ r. ⌜ Decides (SoundApart self) r ⌝ }
     {
         if !is_unit(self.arrays.client_active_texture) {
@@ -199,7 +190,7 @@ impl Context {
     }
 
     // The stack of the mode in force.
-    fn stack_in_force(self) -> MatrixStack
+    pub fn stack_in_force(self) -> MatrixStack
         ensures { λ r. ⌜ r ≡ stackAt (self .mode) (self .stacks) ⌝ }
     {
         let mode = self.mode;
@@ -212,7 +203,7 @@ impl Context {
     }
 
     // The reply of a matrix call: the stack of the mode in force replaced.
-    fn answer_stack(self, a: StackAnswer) -> Reply
+    pub fn answer_stack(self, a: StackAnswer) -> Reply
         ensures { λ r. ⌜ Settled self (reply (a .number) (noted (a .number) (putStacks (putStack (self .mode) (a .stack) (self .stacks)) self))) r ⌝ }
     {
         if !self.is_sound() {
@@ -237,7 +228,7 @@ impl Context {
     }
 
     // The reply of a pointer, client state or client unit call.
-    fn answer_arrays(self, a: ArraysAnswer) -> Reply
+    pub fn answer_arrays(self, a: ArraysAnswer) -> Reply
         ensures { λ r. ⌜ Settled self (reply (a .number) (noted (a .number) (putArrays (a .arrays) self))) r ⌝ }
     {
         if !self.is_sound() {
@@ -259,7 +250,7 @@ impl Context {
     }
 
     // The reply of a call on the current values.
-    fn answer_attributes(self, a: AttributesAnswer) -> Reply
+    pub fn answer_attributes(self, a: AttributesAnswer) -> Reply
         ensures { λ r. ⌜ Settled self (reply (a .number) (noted (a .number) (putAttributes (a .attributes) self))) r ⌝ }
     {
         if !self.is_sound() {
@@ -281,7 +272,7 @@ impl Context {
     }
 
     // The reply of a pipeline call.
-    fn answer_pipeline(self, a: PipelineAnswer) -> Reply
+    pub fn answer_pipeline(self, a: PipelineAnswer) -> Reply
         ensures { λ r. ⌜ Settled self (reply (a .number) (noted (a .number) (putPipeline (a .pipeline) self))) r ⌝ }
     {
         if !self.is_sound() {
@@ -303,7 +294,7 @@ impl Context {
     }
 
     // The context after a buffer call that answered `number`.
-    fn after_buffers(self, number: u32, buffers: Buffers) -> Context
+    pub fn after_buffers(self, number: u32, buffers: Buffers) -> Context
         ensures { λ r. ⌜ r ≡ noted number (putBuffers buffers self) ⌝ }
     {
         let error = slot_after(number, self.error);
@@ -311,377 +302,5 @@ impl Context {
         out.buffers = buffers;
         out.error = error;
         out
-    }
-
-    pub fn set_matrix_mode(self, mode: u32) -> Reply
-        ensures { λ r. ⌜ Does (Call.mode mode) self (r .number) (r .context) ⌝ }
-    {
-        if !self.is_sound() {
-            return Reply {
-                number: INVALID,
-                context: self,
-            };
-        }
-        let found = matrix_mode(mode);
-        match found {
-            ModeChoice::Known(m) => {
-                let stacks = self.stacks;
-                let buffers = self.buffers;
-                let arrays = self.arrays;
-                let attributes = self.attributes;
-                let pipeline = self.pipeline;
-                let error = self.error;
-                let context = Context {
-                    mode: m,
-                    stacks,
-                    buffers,
-                    arrays,
-                    attributes,
-                    pipeline,
-                    error,
-                };
-                Reply { number: 0, context }
-            }
-            ModeChoice::Unknown => {
-                let error = slot_after(INVALID_ENUM, self.error);
-                let mut out = self;
-                out.error = error;
-                Reply {
-                    number: INVALID_ENUM,
-                    context: out,
-                }
-            }
-        }
-    }
-
-    pub fn load_identity(self) -> Reply
-        ensures { λ r. ⌜ Does (Call.matrix (MatrixCall.update MatrixUpdate.loadIdentity)) self (r .number) (r .context) ⌝ }
-    {
-        let stack = self.stack_in_force();
-        self.answer_stack(stack.load_identity())
-    }
-
-    pub fn load_matrix(self, m: [f32; 16]) -> Reply
-        ensures { λ r. ⌜ Does (Call.matrix (MatrixCall.update (MatrixUpdate.load m))) self (r .number) (r .context) ⌝ }
-    {
-        let stack = self.stack_in_force();
-        self.answer_stack(stack.load(m))
-    }
-
-    pub fn mult_matrix(self, m: [f32; 16]) -> Reply
-        ensures { λ r. ⌜ Does (Call.matrix (MatrixCall.update (MatrixUpdate.mult m))) self (r .number) (r .context) ⌝ }
-    {
-        let stack = self.stack_in_force();
-        self.answer_stack(stack.mult(m))
-    }
-
-    pub fn push_matrix(self) -> Reply
-        ensures { λ r. ⌜ Does (Call.matrix MatrixCall.push) self (r .number) (r .context) ⌝ }
-    {
-        let stack = self.stack_in_force();
-        self.answer_stack(stack.push())
-    }
-
-    pub fn pop_matrix(self) -> Reply
-        ensures { λ r. ⌜ Does (Call.matrix MatrixCall.pop) self (r .number) (r .context) ⌝ }
-    {
-        let stack = self.stack_in_force();
-        self.answer_stack(stack.pop())
-    }
-
-    pub fn translate(self, x: f32, y: f32, z: f32) -> Reply
-        ensures { λ r. ⌜ Does (Call.matrix (MatrixCall.update (MatrixUpdate.translate x y z))) self (r .number) (r .context) ⌝ }
-    {
-        let stack = self.stack_in_force();
-        self.answer_stack(stack.translate(x, y, z))
-    }
-
-    pub fn scale(self, x: f32, y: f32, z: f32) -> Reply
-        ensures { λ r. ⌜ Does (Call.matrix (MatrixCall.update (MatrixUpdate.scale x y z))) self (r .number) (r .context) ⌝ }
-    {
-        let stack = self.stack_in_force();
-        self.answer_stack(stack.scale(x, y, z))
-    }
-
-    // By the cosine, the sine and the unit axis.
-    pub fn rotate(self, c: f32, s: f32, x: f32, y: f32, z: f32) -> Reply
-        ensures { λ r. ⌜ Does (Call.matrix (MatrixCall.update (MatrixUpdate.rotate c s x y z))) self (r .number) (r .context) ⌝ }
-    {
-        let stack = self.stack_in_force();
-        self.answer_stack(stack.rotate(c, s, x, y, z))
-    }
-
-    pub fn frustum(self, l: f32, r: f32, b: f32, t: f32, n: f32, f: f32) -> Reply
-        ensures { λ a. ⌜ Does (Call.matrix (MatrixCall.update (MatrixUpdate.frustum l r b t n f))) self (a .number) (a .context) ⌝ }
-    {
-        let stack = self.stack_in_force();
-        self.answer_stack(stack.frustum(l, r, b, t, n, f))
-    }
-
-    pub fn ortho(self, l: f32, r: f32, b: f32, t: f32, n: f32, f: f32) -> Reply
-        ensures { λ a. ⌜ Does (Call.matrix (MatrixCall.update (MatrixUpdate.ortho l r b t n f))) self (a .number) (a .context) ⌝ }
-    {
-        let stack = self.stack_in_force();
-        self.answer_stack(stack.ortho(l, r, b, t, n, f))
-    }
-
-    // The first of n names, one after the other; 0 where none is made.
-    pub fn gen_buffers(self, n: usize) -> GenReply
-        ensures { λ r. ⌜ Does (Call.object (ObjectCall.buffer (BufferCall.gen n))) self (r .number) (r .context) ⌝ }
-        ensures { λ r. ⌜ r .first ≡ genFirst (r .number) (self .buffers .next) n ⌝ }
-    {
-        if !self.is_sound_apart() {
-            return GenReply {
-                number: INVALID,
-                first: 0,
-                context: self,
-            };
-        }
-        let old = self.buffers;
-        let a = buffers::gen_buffers(old, n);
-        let number = a.number;
-        let first = a.first;
-        let buffers = a.buffers;
-        let context = self.after_buffers(number, buffers);
-        GenReply {
-            number,
-            first,
-            context,
-        }
-    }
-
-    pub fn bind_buffer(self, target: u32, name: u32) -> Reply
-        ensures { λ r. ⌜ Does (Call.object (ObjectCall.buffer (BufferCall.bind target name))) self (r .number) (r .context) ⌝ }
-    {
-        if !self.is_sound_apart() {
-            return Reply {
-                number: INVALID,
-                context: self,
-            };
-        }
-        let old = self.buffers;
-        let a = buffers::bind_buffer(old, target, name);
-        let number = a.number;
-        let buffers = a.buffers;
-        let context = self.after_buffers(number, buffers);
-        Reply { number, context }
-    }
-
-    pub fn delete_buffers(self, names: &[u32]) -> Reply
-        ensures { λ r. ⌜ Does (Call.object (ObjectCall.buffer (BufferCall.delete (now (names .entry))))) self (r .number) (r .context) ⌝ }
-    {
-        if !self.is_sound_apart() {
-            return Reply {
-                number: INVALID,
-                context: self,
-            };
-        }
-        let old = self.buffers;
-        let a = buffers::delete_buffers(old, names);
-        let number = a.number;
-        let buffers = a.buffers;
-        let context = self.after_buffers(number, buffers);
-        Reply { number, context }
-    }
-
-    pub fn buffer_data(
-        self,
-        store: &mut [u8],
-        target: u32,
-        size: usize,
-        data: &[u8],
-        usage: u32,
-    ) -> Reply
-        ensures { λ r. ⌜ Did (Call.object (ObjectCall.buffer (BufferCall.bufferData target size (now («data» .entry)) usage))) self (now (store .entry)) (r .number) (r .context) (now (store .exit)) ⌝ }
-    {
-        if !self.is_sound_apart() {
-            return Reply {
-                number: INVALID,
-                context: self,
-            };
-        }
-        let old = self.buffers;
-        let a = buffers::buffer_data(old, store, target, size, data);
-        let number = a.number;
-        let buffers = a.buffers;
-        let context = self.after_buffers(number, buffers);
-        Reply { number, context }
-    }
-
-    pub fn buffer_sub_data(self, store: &mut [u8], target: u32, offset: u32, data: &[u8]) -> Reply
-        ensures { λ r. ⌜ Did (Call.object (ObjectCall.buffer (BufferCall.bufferSubData target offset (now («data» .entry))))) self (now (store .entry)) (r .number) (r .context) (now (store .exit)) ⌝ }
-    {
-        if !self.is_sound_apart() {
-            return Reply {
-                number: INVALID,
-                context: self,
-            };
-        }
-        let old = self.buffers;
-        let a = buffers::buffer_sub_data(old, store, target, offset, data);
-        let number = a.number;
-        let buffers = a.buffers;
-        let context = self.after_buffers(number, buffers);
-        Reply { number, context }
-    }
-
-    pub fn set_vertex_pointer(self, size: u32, ty: u32, stride: u32, pointer: u32) -> Reply
-        ensures { λ r. ⌜ Does (Call.object (ObjectCall.array (ArrayCall.vertexPointer size ty stride pointer))) self (r .number) (r .context) ⌝ }
-    {
-        let old = self.arrays;
-        let binding = self.buffers.array_buffer;
-        self.answer_arrays(arrays::set_vertex_pointer(old, binding, size, ty, stride, pointer))
-    }
-
-    pub fn set_color_pointer(self, size: u32, ty: u32, stride: u32, pointer: u32) -> Reply
-        ensures { λ r. ⌜ Does (Call.object (ObjectCall.array (ArrayCall.colorPointer size ty stride pointer))) self (r .number) (r .context) ⌝ }
-    {
-        let old = self.arrays;
-        let binding = self.buffers.array_buffer;
-        self.answer_arrays(arrays::set_color_pointer(old, binding, size, ty, stride, pointer))
-    }
-
-    pub fn set_normal_pointer(self, ty: u32, stride: u32, pointer: u32) -> Reply
-        ensures { λ r. ⌜ Does (Call.object (ObjectCall.array (ArrayCall.normalPointer ty stride pointer))) self (r .number) (r .context) ⌝ }
-    {
-        let old = self.arrays;
-        let binding = self.buffers.array_buffer;
-        self.answer_arrays(arrays::set_normal_pointer(old, binding, ty, stride, pointer))
-    }
-
-    pub fn set_texcoord_pointer(self, size: u32, ty: u32, stride: u32, pointer: u32) -> Reply
-        ensures { λ r. ⌜ Does (Call.object (ObjectCall.array (ArrayCall.texcoordPointer size ty stride pointer))) self (r .number) (r .context) ⌝ }
-    {
-        let old = self.arrays;
-        let binding = self.buffers.array_buffer;
-        self.answer_arrays(arrays::set_texcoord_pointer(old, binding, size, ty, stride, pointer))
-    }
-
-    pub fn set_client_state(self, array: u32, on: bool) -> Reply
-        ensures { λ r. ⌜ Does (Call.object (ObjectCall.array (ArrayCall.clientState array on))) self (r .number) (r .context) ⌝ }
-    {
-        let old = self.arrays;
-        self.answer_arrays(arrays::set_client_state(old, array, on))
-    }
-
-    pub fn set_client_active_texture(self, unit: u32) -> Reply
-        ensures { λ r. ⌜ Does (Call.object (ObjectCall.array (ArrayCall.clientUnit unit))) self (r .number) (r .context) ⌝ }
-    {
-        let old = self.arrays;
-        self.answer_arrays(arrays::set_client_active_texture(old, unit))
-    }
-
-    // The current colour.
-    pub fn set_color(self, color: [f32; 4]) -> Reply
-        ensures { λ r. ⌜ Does (Call.attribute (AttributeCall.color color)) self (r .number) (r .context) ⌝ }
-    {
-        let old = self.attributes;
-        self.answer_attributes(arrays::set_color(old, color))
-    }
-
-    pub fn set_multi_texcoord(self, unit: u32, s: f32, t: f32) -> Reply
-        ensures { λ r. ⌜ Does (Call.attribute (AttributeCall.multiTexcoord unit s t)) self (r .number) (r .context) ⌝ }
-    {
-        let old = self.attributes;
-        self.answer_attributes(arrays::set_multi_texcoord(old, unit, s, t))
-    }
-
-    pub fn set_active_texture(self, unit: u32) -> Reply
-        ensures { λ r. ⌜ Does (Call.pipeline (PipelineCall.activeTexture unit)) self (r .number) (r .context) ⌝ }
-    {
-        let old = self.pipeline;
-        self.answer_pipeline(pipeline::set_active_texture(old, unit))
-    }
-
-    pub fn set_capability(self, cap: u32, on: bool) -> Reply
-        ensures { λ r. ⌜ Does (Call.pipeline (PipelineCall.capability cap on)) self (r .number) (r .context) ⌝ }
-    {
-        let old = self.pipeline;
-        self.answer_pipeline(pipeline::set_capability(old, cap, on))
-    }
-
-    pub fn tex_env(self, pname: u32, value: u32) -> Reply
-        ensures { λ r. ⌜ Does (Call.pipeline (PipelineCall.texEnv pname value)) self (r .number) (r .context) ⌝ }
-    {
-        let old = self.pipeline;
-        self.answer_pipeline(pipeline::tex_env(old, pname, value))
-    }
-
-    pub fn set_tex_env_color(self, color: [f32; 4]) -> Reply
-        ensures { λ r. ⌜ Does (Call.pipeline (PipelineCall.texEnvColor color)) self (r .number) (r .context) ⌝ }
-    {
-        let old = self.pipeline;
-        self.answer_pipeline(pipeline::set_tex_env_color(old, color))
-    }
-
-    pub fn set_depth_func(self, func: u32) -> Reply
-        ensures { λ r. ⌜ Does (Call.pipeline (PipelineCall.depthFunc func)) self (r .number) (r .context) ⌝ }
-    {
-        let old = self.pipeline;
-        self.answer_pipeline(pipeline::set_depth_func(old, func))
-    }
-
-    pub fn set_depth_range(self, near: f32, far: f32) -> Reply
-        ensures { λ r. ⌜ Does (Call.pipeline (PipelineCall.depthRange near far)) self (r .number) (r .context) ⌝ }
-    {
-        let old = self.pipeline;
-        self.answer_pipeline(pipeline::set_depth_range(old, near, far))
-    }
-
-    pub fn set_alpha_func(self, func: u32, reference: f32) -> Reply
-        ensures { λ r. ⌜ Does (Call.pipeline (PipelineCall.alphaFunc func reference)) self (r .number) (r .context) ⌝ }
-    {
-        let old = self.pipeline;
-        self.answer_pipeline(pipeline::set_alpha_func(old, func, reference))
-    }
-
-    pub fn set_blend_func(self, src: u32, dst: u32) -> Reply
-        ensures { λ r. ⌜ Does (Call.pipeline (PipelineCall.blendFunc src dst)) self (r .number) (r .context) ⌝ }
-    {
-        let old = self.pipeline;
-        self.answer_pipeline(pipeline::set_blend_func(old, src, dst))
-    }
-
-    pub fn set_cull_face(self, mode: u32) -> Reply
-        ensures { λ r. ⌜ Does (Call.pipeline (PipelineCall.cullFace mode)) self (r .number) (r .context) ⌝ }
-    {
-        let old = self.pipeline;
-        self.answer_pipeline(pipeline::set_cull_face(old, mode))
-    }
-
-    pub fn set_front_face(self, mode: u32) -> Reply
-        ensures { λ r. ⌜ Does (Call.pipeline (PipelineCall.frontFace mode)) self (r .number) (r .context) ⌝ }
-    {
-        let old = self.pipeline;
-        self.answer_pipeline(pipeline::set_front_face(old, mode))
-    }
-
-    pub fn set_fog(self, pname: u32, value: f32) -> Reply
-        ensures { λ r. ⌜ Does (Call.pipeline (PipelineCall.fog pname value)) self (r .number) (r .context) ⌝ }
-    {
-        let old = self.pipeline;
-        self.answer_pipeline(pipeline::set_fog(old, pname, value))
-    }
-
-    // The code in the error slot, which is empty afterwards.
-    pub fn take_error(self) -> ErrorReply
-        ensures { λ r. ⌜ Does Call.takeError self (r .number) (r .context) ⌝ }
-        ensures { λ r. ⌜ r .code ≡ cond (eqb (r .number) 0) (self .error) 0 ⌝ }
-    {
-        if !self.is_sound() {
-            return ErrorReply {
-                number: INVALID,
-                code: 0,
-                context: self,
-            };
-        }
-        let code = self.error;
-        let mut out = self;
-        out.error = 0;
-        ErrorReply {
-            number: 0,
-            code,
-            context: out,
-        }
     }
 }

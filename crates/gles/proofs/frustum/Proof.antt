@@ -1,0 +1,12 @@
+-- `gles::frustum` meets its contract, from the call on the stack of the mode in force.
+use Rattle.context.proofs.Entries.{matrix-does}
+use borrow.Author.Needs.{needs}
+use Rattle.gles.proofs.frustum.Statement.{statement}
+use Rattle.gles.proofs.frustum.Tie as tie
+
+returns : tie.Need-returns
+returns c = matrix-does _ _ _ _ _ (c .before .before .stack-in-force .ensures) (c .before .frustum .ensures) (c .answer-stack .ensures)
+
+pub frustum-spec : {M : Type 1} → statement M
+frustum-spec =
+    tie.close (tie.spec (λ c κs. search needs) (λ c κs. search needs) (λ c κs. search needs) returns)
