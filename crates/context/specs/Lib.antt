@@ -2,3 +2,4 @@ pub mod State
 pub mod Calls
 pub mod Rules
 pub mod Contract
+pub mod Examples

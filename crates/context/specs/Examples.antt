@@ -1,0 +1,44 @@
+-- Worked examples as theorems about the rules.
+use mathlib.Core.List.{List, [], _∷_, foldl}
+use mathlib.Core.Option.{some}
+use mathlib.Core.Path.{_≡_, refl}
+use Rattle.stack.specs.Stack.{pop, stackStep}
+use Rattle.buffers.specs.Objects as objects
+use Rattle.buffers.specs.Bounded.{count}
+use Rattle.arrays.specs.Arrays.{vertexPointer, accepted, arrayStep}
+use Rattle.context.specs.State.{State, freshState}
+use Rattle.context.specs.Calls.{bind, delete, buffer, array, Call, matrix, mode, object, takeError}
+use Rattle.context.specs.Rules.{numberOf, step}
+
+-- the state after a list of calls
+abbrev pub after : List Call → State
+after calls = foldl (λ s call. step call s) freshState calls
+
+-- bind 5 at target 0: 0x0500, 5 is live, next is 6
+abbrev pub bind5 : Call
+bind5 = object (buffer (bind 0 5))
+
+pub bind-number : numberOf bind5 freshState ≡ 0x0500
+unfolding objects.bindBuffer objects.liveNames count
+bind-number = refl
+
+pub bind-lives : after (bind5 ∷ []) .objects .buffers .contents 5 ≡ some []
+unfolding objects.bindBuffer objects.named objects.liveNames count
+bind-lives = refl
+
+pub bind-next : after (bind5 ∷ []) .objects .buffers .next ≡ 6
+unfolding objects.bindBuffer objects.named objects.liveNames count
+bind-next = refl
+
+-- the slot keeps the first code, and take_error empties it
+pub first-code-stays : after (mode 7 ∷ matrix pop ∷ []) .error ≡ 0x0500
+first-code-stays = refl
+
+pub taken : after (mode 7 ∷ matrix pop ∷ takeError ∷ matrix pop ∷ []) .error ≡ 0x0504
+unfolding stackStep
+taken = refl
+
+-- a deleted name stays in an array's buffer field
+pub deleted-stays : after (object (buffer (bind 0x8892 5)) ∷ object (array (vertexPointer 3 0x1406 0 0)) ∷ object (buffer (delete (5 ∷ []))) ∷ []) .objects .arrays .vertex .buffer ≡ 5
+unfolding arrayStep accepted objects.bindBuffer objects.liveNames count
+deleted-stays = refl
