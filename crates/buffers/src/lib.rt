@@ -279,12 +279,14 @@ fn bound_name(b: Buffers, target: u32) -> u32
     0
 }
 
-// The length of slot k's buffer.
+// The length of slot k's buffer, 0 where there is no slot k.
 pub fn slot_len(b: Buffers, k: usize) -> u32
-    requires { ⌜ k < slotCount ⌝ }
     ensures { λ r. ⌜ r ≡ lenAt (b .slots) k ⌝ }
 {
-    b.slots[k].len
+    if k < SLOT_COUNT {
+        return b.slots[k].len;
+    }
+    0
 }
 
 // `glBufferData`.

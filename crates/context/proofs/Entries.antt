@@ -157,6 +157,7 @@ module _ (k : stack.MatrixCall) (c : Context) (h : Sound c) where
           active-unit = h .active-unit;
         };
         stacks = refl;
+        slots = λ _. refl;
         refusal = λ q. (inl (ap (λ t. noted (new .number) (putStacks t c)) (ap (λ x. putStack (c .mode) x (c .stacks)) (stack-stays k old q) ∙ put-same (c .mode) (c .stacks))), refl);
       }
 
@@ -177,6 +178,7 @@ module _ (code : ℕ) (c : Context) (h : Sound c) where
         state = rw (sym e);
         sound = record { stacks = h .stacks; buffers = h .buffers; client-unit = h .client-unit; active-unit = h .active-unit };
         stacks = refl;
+        slots = λ _. refl;
         refusal = λ q. absurd (q refl);
       })
 
@@ -187,6 +189,7 @@ module _ (code : ℕ) (c : Context) (h : Sound c) where
         state = rw (sym e);
         sound = record { stacks = h .stacks; buffers = h .buffers; client-unit = h .client-unit; active-unit = h .active-unit };
         stacks = refl;
+        slots = λ _. refl;
         refusal = λ q. (inl refl, refl);
       })
 
@@ -201,6 +204,7 @@ arrays-do k c a out e g =
       state = refl;
       sound = record { stacks = h .stacks; buffers = h .buffers; client-unit = client-stays k (c .buffers .«array_buffer») (c .arrays) (h .client-unit); active-unit = h .active-unit };
       stacks = refl;
+      slots = λ _. refl;
       refusal = λ q. ⊎-elim (λ z. absurd (q z)) (λ z. (inl (ap (λ x. noted (new .number) (putArrays x c)) (z .1)), refl)) (array-keeps k (c .buffers .«array_buffer») (c .arrays));
     })
   where
@@ -218,6 +222,7 @@ attributes-do k c a out e g =
       state = refl;
       sound = record { stacks = h .stacks; buffers = h .buffers; client-unit = h .client-unit; active-unit = h .active-unit };
       stacks = refl;
+      slots = λ _. refl;
       refusal = λ q. ⊎-elim (λ z. absurd (q z)) (λ z. (inl (ap (λ x. noted (new .number) (putAttributes x c)) (z .1)), refl)) (attribute-keeps k (c .attributes));
     })
   where
@@ -235,6 +240,7 @@ pipeline-does k c a out e g =
       state = refl;
       sound = record { stacks = h .stacks; buffers = h .buffers; client-unit = h .client-unit; active-unit = active-stays k (c .pipeline) (h .active-unit) };
       stacks = refl;
+      slots = λ _. refl;
       refusal = λ q. ⊎-elim (λ z. absurd (q z)) (λ z. (inl (ap (λ x. noted (new .number) (putPipeline x c)) (z .1)), refl)) (refusal-keeps k (c .pipeline));
     })
   where
@@ -250,6 +256,7 @@ take-error-does c h =
       state = refl;
       sound = record { stacks = h .stacks; buffers = h .buffers; client-unit = h .client-unit; active-unit = h .active-unit };
       stacks = refl;
+      slots = λ _. refl;
       refusal = λ q. absurd (q refl);
     })
 
@@ -287,6 +294,7 @@ module _ (k : BufferCall) (c : Context) (n : ℕ) (b : Buffers) where
         };
         sound = record { stacks = h .stacks; buffers = sound; client-unit = h .client-unit; active-unit = h .active-unit };
         stacks = refl;
+        slots = λ e. never true refl e;
         refusal = kept;
       }
 

@@ -1,5 +1,5 @@
 -- What every entry promises (01: "Questions at the door", "Terms of the contracts").
-use mathlib.Core.Bool.{Bool, true}
+use mathlib.Core.Bool.{Bool, true, false}
 use mathlib.Core.List.{List}
 use mathlib.Core.Logic.{_⊎_}
 use mathlib.Core.Option.{Option, some, none}
@@ -75,12 +75,13 @@ abbrev pub RefusalKeeps : Call → ℕ → Context → Context → Type 0
 RefusalKeeps call n c c′ =
     (c′ ≡ noted n c) ⊎ ((ofBuffers isBind call ≡ true) × (n ≡ 0x0500) × (c′ ≡ noted n (putBuffers (c′ .buffers) c)))
 
--- A valid call follows the rules: its number, the state that the context and the store stand for afterwards, a sound context, and what a refusal leaves. Which slot holds a name and what the store holds outside live buffers is free.
+-- A valid call follows the rules: its number, the state that the context and the store stand for afterwards, a sound context, and what a refusal leaves. Which slot holds a name, and what the store holds outside live buffers, is free after a buffer call and stays after any other.
 pub record Follows (call : Call) (c : Context) (s : List ℕ) (n : ℕ) (c′ : Context) (s′ : List ℕ) : Type 0 where
   pub number : n ≡ numberOf call (view c s)
   pub state : view c′ s′ ≡ step call (view c s)
   pub sound : Sound c′
   pub stacks : c′ .stacks ≡ stacksAfter call c
+  pub slots : ofBuffers (λ k. true) call ≡ false → c′ .buffers ≡ c .buffers
   pub refusal : (n ≡ 0 → ⊥) → RefusalKeeps call n c c′ × (s′ ≡ s)
 
 -- `Did call c s n c′ s′`: on context c and a store that holds s the call answers n and leaves c′ and s′. A call that is not valid answers 1 and changes nothing.

@@ -1,6 +1,6 @@
 -- Worked examples as theorems about the rules.
-use mathlib.Core.List.{List, [], _∷_, foldl}
-use mathlib.Core.Option.{some}
+use mathlib.Core.List.{List, [], _∷_, _++_, foldl}
+use mathlib.Core.Option.{some, none}
 use mathlib.Core.Path.{_≡_, refl}
 use Rattle.stack.specs.Stack.{pop, stackStep}
 use Rattle.buffers.specs.Objects as objects
@@ -38,7 +38,18 @@ pub taken : after (mode 7 ∷ matrix pop ∷ takeError ∷ matrix pop ∷ []) .e
 unfolding stackStep
 taken = refl
 
--- a deleted name stays in an array's buffer field
-pub deleted-stays : after (object (buffer (bind 0x8892 5)) ∷ object (array (vertexPointer 3 0x1406 0 0)) ∷ object (buffer (delete (5 ∷ []))) ∷ []) .objects .arrays .vertex .buffer ≡ 5
+-- a deleted name stays in an array's buffer field, and is live again when it is bound again
+abbrev pub haunted : List Call
+haunted = object (buffer (bind 0x8892 5)) ∷ object (array (vertexPointer 3 0x1406 0 0)) ∷ object (buffer (delete (5 ∷ []))) ∷ []
+
+pub deleted-stays : after haunted .objects .arrays .vertex .buffer ≡ 5
 unfolding arrayStep accepted objects.bindBuffer objects.liveNames count
 deleted-stays = refl
+
+pub deleted-is-gone : after haunted .objects .buffers .contents 5 ≡ none
+unfolding objects.bindBuffer objects.named objects.liveNames count objects.deleteNames objects.deleteName
+deleted-is-gone = refl
+
+pub revived : after (haunted ++ (object (buffer (bind 0x8893 5)) ∷ [])) .objects .buffers .contents 5 ≡ some []
+unfolding objects.bindBuffer objects.named objects.liveNames count objects.deleteNames objects.deleteName
+revived = refl

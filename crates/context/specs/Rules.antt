@@ -104,6 +104,10 @@ effect takeError s = withError 0 s
 abbrev pub slotAfter : ℕ → ℕ → ℕ
 slotAfter number slot = cond (leb 0x0500 number && eqb slot 0) number slot
 
+-- take_error's code: what the slot held, or 0 where the call is not valid
+abbrev pub errorCode : ℕ → ℕ → ℕ
+errorCode number slot = cond (eqb number 0) slot 0
+
 -- the state after a call
 abbrev pub step : Call → State → State
 step call s = withError (slotAfter (numberOf call s) (effect call s .error)) (effect call s)

@@ -4,6 +4,7 @@ use arrays::ArraysAnswer;
 use arrays::Attributes;
 use arrays::AttributesAnswer;
 use arrays::UNIT_COUNT;
+use buffers::Answered;
 use buffers::Buffers;
 use buffers::INVALID;
 use pipeline::Pipeline;
@@ -202,15 +203,22 @@ impl Context {
         }
     }
 
+    // The reply of a context that is not sound, or for a store of another length.
+    pub fn refuse(self) -> Reply
+        ensures { λ r. ⌜ r ≡ reply 1 self ⌝ }
+    {
+        Reply {
+            number: INVALID,
+            context: self,
+        }
+    }
+
     // The reply of a matrix call: the stack of the mode in force replaced.
     pub fn answer_stack(self, a: StackAnswer) -> Reply
         ensures { λ r. ⌜ Settled self (reply (a .number) (noted (a .number) (putStacks (putStack (self .mode) (a .stack) (self .stacks)) self))) r ⌝ }
     {
         if !self.is_sound() {
-            return Reply {
-                number: INVALID,
-                context: self,
-            };
+            return self.refuse();
         }
         let number = a.number;
         let stack = a.stack;
@@ -232,10 +240,7 @@ impl Context {
         ensures { λ r. ⌜ Settled self (reply (a .number) (noted (a .number) (putArrays (a .arrays) self))) r ⌝ }
     {
         if !self.is_sound() {
-            return Reply {
-                number: INVALID,
-                context: self,
-            };
+            return self.refuse();
         }
         let number = a.number;
         let part = a.arrays;
@@ -254,10 +259,7 @@ impl Context {
         ensures { λ r. ⌜ Settled self (reply (a .number) (noted (a .number) (putAttributes (a .attributes) self))) r ⌝ }
     {
         if !self.is_sound() {
-            return Reply {
-                number: INVALID,
-                context: self,
-            };
+            return self.refuse();
         }
         let number = a.number;
         let part = a.attributes;
@@ -276,10 +278,7 @@ impl Context {
         ensures { λ r. ⌜ Settled self (reply (a .number) (noted (a .number) (putPipeline (a .pipeline) self))) r ⌝ }
     {
         if !self.is_sound() {
-            return Reply {
-                number: INVALID,
-                context: self,
-            };
+            return self.refuse();
         }
         let number = a.number;
         let part = a.pipeline;
@@ -293,14 +292,19 @@ impl Context {
         }
     }
 
-    // The context after a buffer call that answered `number`.
-    pub fn after_buffers(self, number: u32, buffers: Buffers) -> Context
-        ensures { λ r. ⌜ r ≡ noted number (putBuffers buffers self) ⌝ }
+    // The reply of a buffer call that the buffers have answered.
+    pub fn put_buffers(self, a: Answered) -> Reply
+        ensures { λ r. ⌜ r ≡ reply (a .number) (noted (a .number) (putBuffers (a .buffers) self)) ⌝ }
     {
+        let number = a.number;
+        let part = a.buffers;
         let error = slot_after(number, self.error);
         let mut out = self;
-        out.buffers = buffers;
+        out.buffers = part;
         out.error = error;
-        out
+        Reply {
+            number,
+            context: out,
+        }
     }
 }

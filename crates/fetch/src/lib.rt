@@ -7,7 +7,7 @@ ghost use mathlib.Core.Bool.{cond};
 ghost use lib.Dec.{eqb};
 ghost use Prim.Native.Nat.{ℕ, _+_, _-_, _*_, _^_, _<_, _≤_, min};
 ghost use lib.ListN.{length, take, drop};
-ghost use Rattle.number.specs.Numbers.{le};
+ghost use Rattle.number.specs.Numbers.{le, signedAt};
 ghost use Rattle.buffers.specs.Objects.{slotCount, slotBytes, contentsOf, lenAt};
 ghost use Rattle.fetch.specs.Decode.{componentBytes, unsignedComponent, signedComponent, componentOf, component, vectorOf, OneTwoFour};
 ghost use Rattle.fetch.specs.Fetch.{freshArray, addressOf, fetched, inBuffer, inGuest, partOf, sourceOf, Located};
@@ -135,7 +135,7 @@ fn bytes_in_slot(b: Buffers, n: usize, k: usize) -> usize
 }
 
 // Where a buffer's bytes lie in the store.
-pub fn find_in_buffer(b: Buffers, store: &[u8], buffer: u32, address: u32, len: usize) -> Place
+fn find_in_buffer(b: Buffers, store: &[u8], buffer: u32, address: u32, len: usize) -> Place
     ensures { λ r. ⌜ Located (inBuffer (contentsOf (b .slots) (now (store .entry)) buffer) address len) (now (store .entry)) len r ⌝ }
 {
     if buffer == 0 {
@@ -160,7 +160,7 @@ pub fn find_in_buffer(b: Buffers, store: &[u8], buffer: u32, address: u32, len: 
 }
 
 // Where a guest range lies in the guest bytes.
-pub fn find_in_guest(base: u32, guest: &[u8], address: u32, len: usize) -> Place
+fn find_in_guest(base: u32, guest: &[u8], address: u32, len: usize) -> Place
     ensures { λ r. ⌜ Located (inGuest base (now (guest .entry)) address len) (now (guest .entry)) len r ⌝ }
 {
     if address < base {
@@ -195,7 +195,7 @@ fn find_place(
 }
 
 // The `len` bytes from `at` on, a part of the guest bytes with buffer 0, else of the store. Nothing is copied.
-pub fn element<'a>(store: &'a [u8], guest: &'a [u8], buffer: u32, at: usize, len: usize) -> &'a [u8]
+fn element<'a>(store: &'a [u8], guest: &'a [u8], buffer: u32, at: usize, len: usize) -> &'a [u8]
     requires { ⌜ at + len ≤ length (sourceOf buffer (now store) (now guest)) ⌝ }
     ensures { λ r. ⌜ now r ≡ take len (drop at (sourceOf buffer (now (store .entry)) (now (guest .entry)))) ⌝ }
 {
@@ -238,6 +238,18 @@ fn unsigned_component(n: u16, max: u16, normalize: bool) -> f32
     number::u16_to_f32(n)
 }
 
+// Two's complement: of the numbers below 2 * half those from half on stand for the negative ones.
+fn signed16(n: u16, half: u16) -> i16
+    requires { ⌜ (half ≤ 0x8000) × (n < 2 * half) ⌝ }
+    ensures { λ r. ⌜ r ≡ signedAt half n ⌝ }
+{
+    if n < half {
+        n as i16
+    } else {
+        -1 - ((half - 1 - (n - half)) as i16)
+    }
+}
+
 // A component from its number.
 fn convert(ty: u32, normalize: bool, n: u32) -> f32
     requires { ⌜ n < 256 ^ componentBytes ty ⌝ }
@@ -251,10 +263,10 @@ fn convert(ty: u32, normalize: bool, n: u32) -> f32
     }
     let low = n as u16;
     if ty == 0x1400 {
-        return signed_component(number::signed16(low, 0x80), 127, normalize);
+        return signed_component(signed16(low, 0x80), 127, normalize);
     }
     if ty == 0x1402 {
-        return signed_component(number::signed16(low, 0x8000), 32767, normalize);
+        return signed_component(signed16(low, 0x8000), 32767, normalize);
     }
     if ty == 0x1401 {
         return unsigned_component(low, 255, normalize);

@@ -1,4 +1,5 @@
 // The calls that draw nothing. Each takes the context by value and gives it back with the call's number.
+use buffers::Answered;
 use buffers::INVALID;
 use buffers::INVALID_ENUM;
 use context::Context;
@@ -7,24 +8,20 @@ use context::GenReply;
 use context::ModeChoice;
 use context::Reply;
 ghost use mathlib.Core.Path.{_≡_};
-ghost use mathlib.Core.Bool.{cond};
-ghost use lib.Dec.{eqb};
 ghost use Rattle.stack.specs.Stack.{MatrixCall, MatrixUpdate};
 ghost use Rattle.buffers.specs.Objects.{genFirst};
 ghost use Rattle.arrays.specs.Arrays.{ArrayCall};
 ghost use Rattle.arrays.specs.Attributes.{AttributeCall};
 ghost use Rattle.pipeline.specs.Pipeline.{PipelineCall};
 ghost use Rattle.context.specs.Calls.{Call, ObjectCall, BufferCall};
+ghost use Rattle.context.specs.Rules.{errorCode};
 ghost use Rattle.context.specs.Contract.{Did, Does};
 
 pub fn set_matrix_mode(c: Context, mode: u32) -> Reply
     ensures { λ r. ⌜ Does (Call.mode mode) c (r .number) (r .context) ⌝ }
 {
     if !c.is_sound() {
-        return Reply {
-            number: INVALID,
-            context: c,
-        };
+        return c.refuse();
     }
     let found = context::matrix_mode(mode);
     match found {
@@ -143,10 +140,11 @@ pub fn gen_buffers(c: Context, n: usize) -> GenReply
     }
     let old = c.buffers;
     let a = buffers::gen_buffers(old, n);
-    let number = a.number;
     let first = a.first;
+    let number = a.number;
     let buffers = a.buffers;
-    let context = c.after_buffers(number, buffers);
+    let r = c.put_buffers(Answered { number, buffers });
+    let context = r.context;
     GenReply {
         number,
         first,
@@ -158,34 +156,20 @@ pub fn bind_buffer(c: Context, target: u32, name: u32) -> Reply
     ensures { λ r. ⌜ Does (Call.object (ObjectCall.buffer (BufferCall.bind target name))) c (r .number) (r .context) ⌝ }
 {
     if !c.is_sound_apart() {
-        return Reply {
-            number: INVALID,
-            context: c,
-        };
+        return c.refuse();
     }
     let old = c.buffers;
-    let a = buffers::bind_buffer(old, target, name);
-    let number = a.number;
-    let buffers = a.buffers;
-    let context = c.after_buffers(number, buffers);
-    Reply { number, context }
+    c.put_buffers(buffers::bind_buffer(old, target, name))
 }
 
 pub fn delete_buffers(c: Context, names: &[u32]) -> Reply
     ensures { λ r. ⌜ Does (Call.object (ObjectCall.buffer (BufferCall.delete (now (names .entry))))) c (r .number) (r .context) ⌝ }
 {
     if !c.is_sound_apart() {
-        return Reply {
-            number: INVALID,
-            context: c,
-        };
+        return c.refuse();
     }
     let old = c.buffers;
-    let a = buffers::delete_buffers(old, names);
-    let number = a.number;
-    let buffers = a.buffers;
-    let context = c.after_buffers(number, buffers);
-    Reply { number, context }
+    c.put_buffers(buffers::delete_buffers(old, names))
 }
 
 pub fn buffer_data(
@@ -199,34 +183,20 @@ pub fn buffer_data(
     ensures { λ r. ⌜ Did (Call.object (ObjectCall.buffer (BufferCall.bufferData target size (now («data» .entry)) usage))) c (now (store .entry)) (r .number) (r .context) (now (store .exit)) ⌝ }
 {
     if !c.is_sound_apart() {
-        return Reply {
-            number: INVALID,
-            context: c,
-        };
+        return c.refuse();
     }
     let old = c.buffers;
-    let a = buffers::buffer_data(old, store, target, size, data);
-    let number = a.number;
-    let buffers = a.buffers;
-    let context = c.after_buffers(number, buffers);
-    Reply { number, context }
+    c.put_buffers(buffers::buffer_data(old, store, target, size, data))
 }
 
 pub fn buffer_sub_data(c: Context, store: &mut [u8], target: u32, offset: u32, data: &[u8]) -> Reply
     ensures { λ r. ⌜ Did (Call.object (ObjectCall.buffer (BufferCall.bufferSubData target offset (now («data» .entry))))) c (now (store .entry)) (r .number) (r .context) (now (store .exit)) ⌝ }
 {
     if !c.is_sound_apart() {
-        return Reply {
-            number: INVALID,
-            context: c,
-        };
+        return c.refuse();
     }
     let old = c.buffers;
-    let a = buffers::buffer_sub_data(old, store, target, offset, data);
-    let number = a.number;
-    let buffers = a.buffers;
-    let context = c.after_buffers(number, buffers);
-    Reply { number, context }
+    c.put_buffers(buffers::buffer_sub_data(old, store, target, offset, data))
 }
 
 pub fn set_vertex_pointer(c: Context, size: u32, ty: u32, stride: u32, pointer: u32) -> Reply
@@ -370,7 +340,7 @@ pub fn set_fog(c: Context, pname: u32, value: f32) -> Reply
 // The code in the error slot, which is empty afterwards.
 pub fn take_error(c: Context) -> ErrorReply
     ensures { λ r. ⌜ Does Call.takeError c (r .number) (r .context) ⌝ }
-    ensures { λ r. ⌜ r .code ≡ cond (eqb (r .number) 0) (c .error) 0 ⌝ }
+    ensures { λ r. ⌜ r .code ≡ errorCode (r .number) (c .error) ⌝ }
 {
     if !c.is_sound() {
         return ErrorReply {

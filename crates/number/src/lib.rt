@@ -1,11 +1,11 @@
 // Bytes and whole numbers to f32, and f32 to and from their bit patterns.
 ghost use mathlib.Core.Path.{_≡_};
 ghost use mathlib.Core.List.{[], _∷_};
-ghost use Prim.Native.Nat.{_*_, _<_, _≤_};
+ghost use Prim.Native.Nat.{_<_};
 ghost use lib.IntN.{pos};
 ghost use lib.Ieee.{binary32, ofBits, toBits};
 ghost use Rattle.number.specs.F32.{nearest};
-ghost use Rattle.number.specs.Numbers.{le, signedAt, signedOf, fixed, clamped, clampedUnit, unorm, snorm, magnitude, wholePart};
+ghost use Rattle.number.specs.Numbers.{le, signedOf, fixed, clamped, clampedUnit, unorm, snorm, magnitude, wholePart};
 
 // The numbers of two and of four little-endian bytes.
 pub fn le16(a: u8, b: u8) -> u16
@@ -18,18 +18,6 @@ pub fn le32(a: u8, b: u8, c: u8, d: u8) -> u32
     ensures { λ r. ⌜ r ≡ le (a ∷ b ∷ c ∷ d ∷ []) ⌝ }
 {
     (a as u32) + 256 * ((b as u32) + 256 * ((c as u32) + 256 * (d as u32)))
-}
-
-// Two's complement: of the numbers below 2 * half those from half on stand for the negative ones.
-pub fn signed16(n: u16, half: u16) -> i16
-    requires { ⌜ (half ≤ 0x8000) × (n < 2 * half) ⌝ }
-    ensures { λ r. ⌜ r ≡ signedAt half n ⌝ }
-{
-    if n < half {
-        n as i16
-    } else {
-        -1 - ((half - 1 - (n - half)) as i16)
-    }
 }
 
 pub fn signed32(n: u32) -> i32

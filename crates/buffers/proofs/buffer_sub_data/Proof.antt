@@ -40,9 +40,6 @@ returns-3 : tie.Need-returns-3
 unfolding bufferSubData
 returns-3 c = in-same _ _ _ (valid (c .before .before .before)) (c .before .before .if2 .left) 0x0502 (simp (bufferSubData, sym (bound (c .before)), eq-eqb _ _ (c .if3 .taken)))
 
-slot-len-requires : tie.Need-slot-len-requires
-slot-len-requires c κs = found c
-
 returns-4 : tie.Need-returns-4
 returns-4 c =
     sub-short _ _ _ _ (valid (c .before .before .before .before .before .before)) (c .before .before .before .before .before .before .before .sound .ensures .slots) (c .before .before .before .before .before .if2 .left) (bound (c .before .before .before .before)) (c .before .before .before .if3 .left) _ (c .before .before .find-slot .ensures) _ _ _ (c .before .slot-len .ensures) (c .if4 .taken)
@@ -64,4 +61,4 @@ returns-5 c =
 pub buffer-sub-data-spec : {M : Type 1} → statement M
 buffer-sub-data-spec =
     tie.close
-    (tie.spec (λ c κs. search needs) returns returns-2 (λ c κs. search needs) returns-3 (λ c κs. search needs) slot-len-requires (λ c. search needs) (λ c. search needs) returns-4 mul-write-padded add-write-padded write-padded-requires (λ c. search needs) returns-5)
+    (tie.spec (λ c κs. search needs) returns returns-2 (λ c κs. search needs) returns-3 (λ c κs. search needs) (λ c κs. search needs) (λ c. search needs) (λ c. search needs) returns-4 mul-write-padded add-write-padded write-padded-requires (λ c. search needs) returns-5)

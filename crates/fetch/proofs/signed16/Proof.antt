@@ -1,11 +1,11 @@
--- `number::signed16` meets its contract, by the law of two's complement at its width.
+-- `fetch::signed16` meets its contract, by the law of two's complement at its width.
 use Prim.Native.Nat.{_-_}
 use native.Mathlib.Omega.{arith}
 use mir.Syntax.{w16}
 use borrow.Author.Needs.{needs}
 use Rattle.number.proofs.TwosComplement.{flipped-fits, upright, negative}
-use Rattle.number.proofs.signed16.Statement.{statement}
-use Rattle.number.proofs.signed16.Tie as tie
+use Rattle.fetch.proofs.signed16.Statement.{statement}
+use Rattle.fetch.proofs.signed16.Tie as tie
 
 sub-result-3 : tie.Need-sub-result-3
 sub-result-3 c = let half = c .before .args .half in flipped-fits w16 (half - 1 - (c .before .args .n - half)) (omega arith)
