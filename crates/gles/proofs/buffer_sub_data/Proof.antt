@@ -5,38 +5,10 @@ use Rattle.context.proofs.Entries.{unsound-apart, upload-did}
 use borrow.Author.Needs.{needs}
 use Rattle.gles.proofs.buffer_sub_data.Statement.{statement}
 use Rattle.gles.proofs.buffer_sub_data.Tie as tie
-use Rattle.gles.proofs.buffer_sub_data.Reads as reads
-use Rattle.gles.proofs.buffer_sub_data.Lts as lts
-use Rattle.buffers.proofs.buffer_sub_data.Reads as buffer-sub-data-reads
-use Rattle.context.proofs.Context.is_sound_apart.Reads as is-sound-apart-reads
-use Rattle.context.proofs.Context.put_buffers.Reads as put-buffers-reads
-use Rattle.context.proofs.Context.refuse.Reads as refuse-reads
 
--- src/lib.rt:196:9
-is-sound-apart-requires : tie.Need-is-sound-apart-requires
-is-sound-apart-requires c κs = search needs
-
--- src/lib.rt:197:9
-refuse-requires : tie.Need-refuse-requires
-refuse-requires c κs = search needs
-
--- src/lib.rt:197:9
 returns : tie.Need-returns
 returns c = rw (c .refuse .ensures) (unsound-apart _ _ _ (c .before .before .is-sound-apart .ensures .no (not-true _ (c .before .if1 .taken))))
 
--- src/lib.rt:200:19
-buffer-sub-data-requires : tie.Need-buffer-sub-data-requires
-buffer-sub-data-requires c κs = search needs
-
--- src/lib.rt:200:5
-put-buffers-requires : tie.Need-put-buffers-requires
-put-buffers-requires c κs = search needs
-
--- src/lib.rt:193:1
-same-length : tie.Need-same-length
-same-length c = search needs
-
--- src/lib.rt:193:1
 returns-2 : tie.Need-returns-2
 returns-2 c = rw (c .put-buffers .ensures) (upload-did _ _ _ _ (c .before .before .before .before .before .before .before .is-sound-apart .ensures .yes (not-false _ (c .before .before .before .before .before .before .if1 .left))) _ _ refl (c .before .before .before .buffer-sub-data .ensures))
 
@@ -44,10 +16,10 @@ pub buffer-sub-data-spec : {M : Type 1} → statement M
 buffer-sub-data-spec =
     tie.close
     (tie.spec
-    is-sound-apart-requires
-    refuse-requires
+    (λ c κs. search needs)
+    (λ c κs. search needs)
     returns
-    buffer-sub-data-requires
-    put-buffers-requires
-    same-length
+    (λ c κs. search needs)
+    (λ c κs. search needs)
+    (λ c. search needs)
     returns-2)
