@@ -7,12 +7,16 @@ use lib.Ieee.{Float}
 use lib.ListN.{set, replicate}
 use Rattle.number.specs.F32.{f0, f1}
 use Rattle.arrays.specs.Arrays.{unitCount}
+use Rattle.arrays.specs.declared.Pair.{Pair}
 use Rattle.arrays.specs.declared.Attributes.{Attributes}
 use Rattle.arrays.specs.declared.AttributesAnswer.{AttributesAnswer}
 
+abbrev pub noPair : Pair
+noPair = record { s = f0; t = f0 }
+
 -- colour 1,1,1,1 and all pairs 0,0
 abbrev pub freshAttributes : Attributes
-freshAttributes = record { color = f1 ∷ f1 ∷ f1 ∷ f1 ∷ []; pairs = replicate unitCount (record { s = f0; t = f0 }) }
+freshAttributes = record { color = f1 ∷ f1 ∷ f1 ∷ f1 ∷ []; pairs = replicate unitCount noPair }
 
 pub data AttributeCall : Type 0 where
   color : (value : List Float) → AttributeCall

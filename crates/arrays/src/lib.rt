@@ -2,9 +2,11 @@
 use fetch::ArrayPointer;
 ghost use mathlib.Core.Path.{_≡_};
 ghost use Prim.Native.Nat.{ℕ};
+ghost use lib.ListN.{getD};
 ghost use Rattle.number.specs.Tables.{lookup};
+ghost use Rattle.fetch.specs.Fetch.{freshArray};
 ghost use Rattle.arrays.specs.Arrays.{freshArrays, arrayOf, putArray, pointerSet, enabledSet, arrayKinds, kindOf, done, refused, answered, arrayStep, vertexPointer, colorPointer, normalPointer, texcoordPointer, clientState, clientUnit};
-ghost use Rattle.arrays.specs.Attributes.{freshAttributes, unitOf, attributeStep, AttributeCall};
+ghost use Rattle.arrays.specs.Attributes.{noPair, freshAttributes, unitOf, attributeStep, AttributeCall};
 
 // How many texture units there are.
 pub const UNIT_COUNT: usize = 4;
@@ -77,13 +79,12 @@ fn refuse(a: Arrays) -> ArraysAnswer
     }
 }
 
-// The client unit's array.
-fn client_array(a: Arrays) -> ArrayPointer
-    ensures { λ r. ⌜ r ≡ arrayOf ArrayKind.TexCoord a ⌝ }
+// The array of a unit.
+pub fn unit_array(a: Arrays, unit: usize) -> ArrayPointer
+    ensures { λ r. ⌜ r ≡ getD (a .texcoord) unit freshArray ⌝ }
 {
-    let i = a.client_active_texture as usize;
-    if i < UNIT_COUNT {
-        return a.texcoord[i];
+    if unit < UNIT_COUNT {
+        return a.texcoord[unit];
     }
     fetch::fresh_array()
 }
@@ -95,7 +96,7 @@ fn array_of(a: Arrays, kind: ArrayKind) -> ArrayPointer
         ArrayKind::Vertex => a.vertex,
         ArrayKind::Color => a.color,
         ArrayKind::Normal => a.normal,
-        ArrayKind::TexCoord => client_array(a),
+        ArrayKind::TexCoord => unit_array(a, a.client_active_texture as usize),
     }
 }
 
@@ -287,6 +288,16 @@ pub fn fresh_attributes() -> Attributes
         color: [1.0, 1.0, 1.0, 1.0],
         pairs: [pair; UNIT_COUNT],
     }
+}
+
+// The current pair of a unit.
+pub fn unit_pair(a: Attributes, unit: usize) -> Pair
+    ensures { λ r. ⌜ r ≡ getD (a .pairs) unit noPair ⌝ }
+{
+    if unit < UNIT_COUNT {
+        return a.pairs[unit];
+    }
+    Pair { s: 0.0, t: 0.0 }
 }
 
 pub fn set_color(a: Attributes, color: [f32; 4]) -> AttributesAnswer

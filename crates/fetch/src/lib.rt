@@ -10,7 +10,7 @@ ghost use lib.ListN.{length, take, drop};
 ghost use Rattle.number.specs.Numbers.{le, signedAt};
 ghost use Rattle.buffers.specs.Objects.{slotCount, slotBytes, contentsOf, lenAt};
 ghost use Rattle.fetch.specs.Decode.{componentBytes, unsignedComponent, signedComponent, componentOf, component, vectorOf, OneTwoFour};
-ghost use Rattle.fetch.specs.Fetch.{freshArray, addressOf, fetched, inBuffer, inGuest, partOf, sourceOf, Located};
+ghost use Rattle.fetch.specs.Fetch.{freshArray, addressOf, fetched, inBuffer, inGuest, partOf, positionNumber, sourceOf, Located};
 
 // Four components.
 pub struct Vec4 {
@@ -328,5 +328,18 @@ pub fn fetch<'a>(
                 }
             }
         }
+    }
+}
+
+// The number of what a position's fetch answers.
+pub fn position_number(f: Fetched) -> u32
+    ensures { λ r. ⌜ r ≡ positionNumber f ⌝ }
+{
+    match f {
+        Fetched::Components(_) => 0,
+        Fetched::UnknownType => 9,
+        Fetched::Overflow => 9,
+        Fetched::NoBuffer => 9,
+        Fetched::Unreadable => 9,
     }
 }

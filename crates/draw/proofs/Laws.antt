@@ -1,0 +1,102 @@
+-- Laws of the draw rules. Assumes nothing.
+use Prim.Native.Nat.{ℕ, zero, suc, _+_, _-_, _*_, _<_, _≤_}
+use mathlib.Core.Path.{_≡_, refl, _∙_}
+use mathlib.Core.Bool.{Bool, true, false, cond}
+use mathlib.Core.List.{List, [], _∷_, _++_, append-nil, append-assoc}
+use native.Mathlib.Nat.{add-zero, zero-add}
+use native.Mathlib.Numerals.{add-one}
+use native.Mathlib.Omega.{arith}
+use lib.ListN.{length, set, drop, length-append}
+use lib.Seq.{sets, sets-eq}
+use lib.Ieee.{Float}
+use Rattle.buffers.specs.Bounded.{firstFrom}
+use Rattle.draw.specs.Vertex.{vertexWords}
+use Rattle.draw.specs.Triangles.{triangleCount, Triangle, cornersOf, threeWords, trianglesTo, wordsOf}
+use Rattle.draw.specs.declared.Vertex.{Vertex}
+use Rattle.draw.specs.declared.Primitive.{Primitive}
+
+module _ (f : ℕ → Bool) (i n : ℕ) where
+  -- i places are passed, and the test fails at i: one more is passed
+  pub first-pass : i < n → f i ≡ false → firstFrom f (i + 1) (n - (i + 1)) ≡ firstFrom f i (n - i)
+  unfolding firstFrom
+  first-pass h e = let k : n - i ≡ suc (n - (i + 1)) = omega arith in rw (k, e, add-one i)
+
+  -- the test holds at i
+  pub first-found : i < n → f i ≡ true → firstFrom f i (n - i) ≡ i
+  unfolding firstFrom
+  first-found h e = let k : n - i ≡ suc (n - (i + 1)) = omega arith in rw (k, e)
+
+  -- no place is left
+  pub first-none : n ≤ i → firstFrom f i (n - i) ≡ i
+  unfolding firstFrom
+  first-none h = let k : n - i ≡ 0 = omega arith in rw k
+
+-- ---- runs of stores
+module _ {A : Type 0} where
+  -- two runs, the second where the first ends
+  pub sets-append : (l : List A) (i : ℕ) (a b : List A) → sets (sets l i a) (i + length a) b ≡ sets l i (a ++ b)
+  sets-append l i [] b = rw add-zero
+  sets-append l i (x ∷ a) b = let e : i + suc (length a) ≡ suc i + length a = omega arith in rw e (sets-append (set l i x) (suc i) a b)
+
+  -- a list is l with a stored from i, and then it has b stored from where that ends
+  pub sets-then : (l : List A) (i : ℕ) (a b : List A) {o o′ : List A} {j : ℕ} → o ≡ sets l i a → o′ ≡ sets o j b → j ≡ i + length a → o′ ≡ sets l i (a ++ b)
+  sets-then l i a b p q e = q ∙ rw (p, e) (sets-append l i a b)
+
+-- ---- lists of triangles
+pub words-append : (a b : List Triangle) → wordsOf (a ++ b) ≡ wordsOf a ++ wordsOf b
+unfolding wordsOf
+words-append [] b = refl
+words-append (t ∷ a) b = rw (words-append a b, append-assoc)
+
+pub length-words : (ts : List Triangle) → length (wordsOf ts) ≡ 51 * length ts
+unfolding wordsOf threeWords vertexWords
+length-words [] = refl
+length-words (t ∷ ts) = omega (arith, length-words ts)
+
+pub length-three : (a b c : Vertex) → length (threeWords a b c) ≡ 51
+unfolding threeWords vertexWords
+length-three a b c = refl
+
+-- of one triangle, and of two
+pub words-one : (t : Triangle) → wordsOf (t ∷ []) ≡ threeWords (t .a) (t .b) (t .c)
+unfolding wordsOf
+words-one t = rw append-nil
+
+pub words-two : (t u : Triangle) → wordsOf (t ∷ u ∷ []) ≡ threeWords (t .a) (t .b) (t .c) ++ threeWords (u .a) (u .b) (u .c)
+unfolding wordsOf
+words-two t u = rw append-nil
+
+-- stored from the start: they stand first, and the rest is as it was
+pub words-stored : (ts : List Triangle) (o : List Float) → 51 * length ts ≤ length o → sets o 0 (wordsOf ts) ≡ wordsOf ts ++ drop (51 * length ts) o
+words-stored ts o h = sets-eq (wordsOf ts) o 0 (omega (arith, length-words ts)) ∙ rw (zero-add, length-words ts)
+
+module _ (vertex : ℕ → Vertex) (p : Primitive) where
+  pub count-triangles : (n : ℕ) → length (trianglesTo vertex p n) ≡ n
+  unfolding trianglesTo
+  count-triangles zero = refl
+  count-triangles (suc n) = rw length-append (omega (arith, count-triangles n))
+
+  -- one triangle more
+  pub words-more : (n : ℕ) → wordsOf (trianglesTo vertex p (n + 1)) ≡ wordsOf (trianglesTo vertex p n) ++ threeWords (vertex (cornersOf p n .a)) (vertex (cornersOf p n .b)) (vertex (cornersOf p n .c))
+  unfolding trianglesTo
+  words-more n = rw (add-one, words-append, words-one)
+
+  pub length-triangles : (n : ℕ) → length (wordsOf (trianglesTo vertex p n)) ≡ 51 * n
+  length-triangles n = length-words (trianglesTo vertex p n) ∙ rw (count-triangles n)
+
+-- no more triangles than indices
+pub count-le : (p : Primitive) (n : ℕ) → triangleCount p n ≤ n
+count-le Primitive.Triangles n = omega arith
+count-le Primitive.Strip n = omega arith
+count-le Primitive.Fan n = omega arith
+
+-- ---- the search stops only at a real failure, and passes none
+first-cases : (f : ℕ → Bool) (i k : ℕ) (b : Bool) → f i ≡ b → (firstFrom f (suc i) k < suc i + k → f (firstFrom f (suc i) k) ≡ true) →
+    cond b i (firstFrom f (suc i) k) < i + suc k → f (cond b i (firstFrom f (suc i) k)) ≡ true
+first-cases f i k true e rest h = e
+first-cases f i k false e rest h = rest (omega arith)
+
+pub first-real : (f : ℕ → Bool) (i k : ℕ) → firstFrom f i k < i + k → f (firstFrom f i k) ≡ true
+unfolding firstFrom
+first-real f i zero h = absurd (omega arith)
+first-real f i (suc k) h = first-cases f i k (f i) refl (first-real f (suc i) k) h

@@ -1,0 +1,4 @@
+pub mod IndexLists
+pub mod Vertices
+pub mod Laws
+pub mod Drawing

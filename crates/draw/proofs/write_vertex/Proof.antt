@@ -1,0 +1,59 @@
+-- `draw::write_vertex` meets its contract.
+use mathlib.Core.List.{[], _∷_, _++_}
+use Rattle.draw.proofs.Laws.{sets-then}
+use Rattle.draw.specs.Vertex.{vertexWords, four, nextFour}
+use denote.Ref.{now}
+use Prim.Native.Nat.{_+_}
+use lib.Seq.{sets, length-sets}
+use lib.ListN.{length, set}
+use mathlib.Core.Path.{_≡_, refl, ap, _∙_}
+use borrow.Author.Needs.{needs}
+use Rattle.draw.proofs.write_vertex.Statement.{statement}
+use Rattle.draw.proofs.write_vertex.Tie as tie
+
+-- the stores, one run after the other
+written : (c : tie.After-slice-known5) → set (c .before .before .put44 .last .0) (c .before .before .before .before .before .before .before .before .before .before .before .before .before .before .before .before .before .before .before .before .args .at + 16) (c .before .before .before .before .before .before .before .before .before .before .before .before .before .before .before .before .before .before .before .before .args .v .fog) ≡ sets (now (c .before .before .before .before .before .before .before .before .before .before .before .before .before .before .before .before .before .before .before .before .args .out)) (c .before .before .before .before .before .before .before .before .before .before .before .before .before .before .before .before .before .before .before .before .args .at) (vertexWords (c .before .before .before .before .before .before .before .before .before .before .before .before .before .before .before .before .before .before .before .before .args .v))
+unfolding vertexWords
+written c =
+    let args = c .before .before .before .before .before .before .before .before .before .before .before .before .before .before .before .before .before .before .before .before .args in
+    let out = now (args .out) in
+    let at = args .at in
+    let p = four (args .v .position) in
+    let k = four (args .v .color) in
+    let s = four (args .v .texcoords) in
+    let t = nextFour (args .v .texcoords) in
+    let e2 = sets-then out at p k (c .before .before .before .before .before .before .before .before .before .before .before .before .before .before .put4 .ensures) (c .before .before .before .before .before .before .before .before .before .before .put42 .ensures) refl in
+    let e3 = sets-then out at (p ++ k) s e2 (c .before .before .before .before .before .before .put43 .ensures) refl in
+    let e4 = sets-then out at (p ++ k ++ s) t e3 (c .before .before .put44 .ensures) refl in
+    sets-then out at (p ++ k ++ s ++ t) (args .v .fog ∷ []) e4 refl refl
+
+same-length : tie.Need-same-length
+same-length c = ap length (written c) ∙ simp length-sets
+
+returns : tie.Need-returns
+returns c = written c
+
+pub write-vertex-spec : {M : Type 1} → statement M
+write-vertex-spec =
+    tie.close
+    (tie.spec
+    (λ c κs. search needs)
+    (λ c. search needs)
+    (λ c κs. search needs)
+    (λ c. search needs)
+    (λ c. search needs)
+    (λ c. search needs)
+    (λ c. search needs)
+    (λ c. search needs)
+    (λ c κs. search needs)
+    (λ c. search needs)
+    (λ c. search needs)
+    (λ c. search needs)
+    (λ c. search needs)
+    (λ c. search needs)
+    (λ c κs. search needs)
+    (λ c. search needs)
+    (λ c. search needs)
+    (λ c. search needs)
+    same-length
+    returns)

@@ -1,0 +1,6 @@
+pub mod Scene
+pub mod Index
+pub mod Vertex
+pub mod Triangles
+pub mod Draw
+pub mod Examples
