@@ -16,16 +16,16 @@ use Rattle.draw.specs.Vertex.{componentsOr, origin, elementOf, objectPos
 
 -- a unit's pair, with its array enabled or not
 module _ (s : Scene) (index unit : ℕ) (a : ArrayPointer) (e : a ≡ getD (s .arrays .texcoord) unit freshArray) where
+  pub stage-off : a .enabled ≡ false → (r : Pair) → r ≡ getD (s .attributes .pairs) unit noPair → r ≡ stagePair s index unit
+  unfolding stagePair
+  stage-off h r g =
+      g ∙ ap (λ b. cond b (transformedPair (s .texture) (componentsOr (elementOf s (getD (s .arrays .texcoord) unit freshArray) index false) origin)) (getD (s .attributes .pairs) unit noPair)) (sym (ap (λ x. x .enabled) (sym e) ∙ h))
+
   pub stage-on : a .enabled ≡ true → (v : List Float) → v ≡ componentsOr (elementOf s a index false) origin → (r : Pair) → r ≡ transformedPair (s .texture) v → r ≡ stagePair s index unit
   unfolding stagePair
   stage-on h v f r g =
       g ∙ ap (transformedPair (s .texture)) (f ∙ ap (λ x. componentsOr (elementOf s x index false) origin) e)
       ∙ ap (λ b. cond b (transformedPair (s .texture) (componentsOr (elementOf s (getD (s .arrays .texcoord) unit freshArray) index false) origin)) (getD (s .attributes .pairs) unit noPair)) (sym (ap (λ x. x .enabled) (sym e) ∙ h))
-
-  pub stage-off : a .enabled ≡ false → (r : Pair) → r ≡ getD (s .attributes .pairs) unit noPair → r ≡ stagePair s index unit
-  unfolding stagePair
-  stage-off h r g =
-      g ∙ ap (λ b. cond b (transformedPair (s .texture) (componentsOr (elementOf s (getD (s .arrays .texcoord) unit freshArray) index false) origin)) (getD (s .attributes .pairs) unit noPair)) (sym (ap (λ x. x .enabled) (sym e) ∙ h))
 
 -- the pair of a unit, where `on` says whether it has a stage
 pub pair-is : (s : Scene) (index unit : ℕ) (on : Bool) (r : Pair) → on ≡ hasStage (s .stages) unit → r ≡ cond on (stagePair s index unit) noPair → r ≡ pairOf s index unit
