@@ -7,6 +7,8 @@ use mathlib.Core.Path.{_≡_, refl, sym, ap, subst, _∙_}
 use Prim.Native.Nat.{ℕ, _+_, _<_}
 use native.Mathlib.Omega.{arith}
 use lib.Dec.{ltb}
+use lib.Ieee.{Float}
+use lib.ListN.{length}
 use Rattle.number.specs.Decides.{Decides}
 use Rattle.number.specs.Tables.{lookup}
 use Rattle.stack.specs.Stack as stack
@@ -27,6 +29,10 @@ use Rattle.pipeline.specs.Pipeline.{PipelineCall, pipelineStep, freshPipeline}
 use Rattle.pipeline.specs.declared.Pipeline.{Pipeline}
 use Rattle.pipeline.specs.declared.PipelineAnswer.{PipelineAnswer}
 use Rattle.pipeline.proofs.Laws.{refusal-keeps, active-stays}
+use Rattle.draw.specs.Scene.{Source, DrawCall, sceneIn}
+use Rattle.draw.specs.Draw.{drawIn, Draws}
+use Rattle.draw.specs.declared.Scene.{Scene}
+use Rattle.draw.specs.declared.Drawn.{Drawn}
 use Rattle.context.specs.declared.MatrixMode.{MatrixMode}
 use Rattle.context.specs.declared.Stacks.{Stacks}
 use Rattle.context.specs.declared.Context.{Context}
@@ -34,8 +40,8 @@ use Rattle.context.specs.declared.Reply.{Reply}
 use Rattle.context.specs.State.{stackAt, view, Sound, SoundApart, Fresh}
 use Rattle.context.specs.Calls as calls
 use Rattle.context.specs.Calls.{BufferCall, gen, bind, delete, bufferData, bufferSubData, Call, isUpload, isBind, borrowsStore}
-use Rattle.context.specs.Rules.{matrixModes, sameMode, bufferAnswer, slotAfter}
-use Rattle.context.specs.Contract.{putStack, putMode, putStacks, putBuffers, putArrays, putAttributes, putPipeline, putError, noted, Valid, RefusalKeeps, Follows, Did, Does, reply, Settled}
+use Rattle.context.specs.Rules.{matrixModes, sameMode, bufferAnswer, drawing, slotAfter}
+use Rattle.context.specs.Contract.{putStack, putMode, putStacks, putBuffers, putArrays, putAttributes, putPipeline, putError, noted, Valid, RefusalKeeps, Follows, Did, Does, Drew, reply, Settled, sceneFor, drawCall}
 
 -- ---- soundness
 
@@ -61,6 +67,9 @@ apart-sound c p q d = record { yes = λ e. record { stacks = d .yes e; client-un
 
 pub whole-sound : (c : Context) {b : Bool} → SoundApart c → Decides (buffer.Sound (c .buffers)) b → Decides (Sound c) b
 whole-sound c h d = record { yes = λ e. record { stacks = h .stacks; buffers = d .yes e; client-unit = h .client-unit; active-unit = h .active-unit }; no = λ e w. d .no e (w .buffers) }
+
+pub ready : {P Q : Type 0} {b : Bool} → Q → Decides P b → Decides (P × Q) b
+ready q d = record { yes = λ e. (d .yes e, q); no = λ e h. d .no e (h .0) }
 
 -- ---- calls that are not valid
 
@@ -331,6 +340,50 @@ module _ (k : BufferCall) (c : Context) (n : ℕ) (b : Buffers) where
               (λ q. (inl (ap (λ x. noted n (putBuffers x c)) (a .stays q .0)), a .stays q .1));
           size = a .size;
         }
+
+-- ---- draws
+
+-- a draw that is not valid
+pub draw-unready : (d : DrawCall) (c : Context) (s : List ℕ) (out : List Float) → (Sound c × (length s ≡ buffer.storeBytes) → ⊥) → Did (calls.draw d) c s 1 c s × Drew d c s (record { number = 1; count = 0 }) out out
+draw-unready d c s out h = (
+  record { invalid = λ _. (refl, refl, refl); follows = λ v. absurd (h (v .sound, v .store refl)); size = refl },
+  record { invalid = λ _. (refl, refl); drawn = λ v. absurd (h (v .sound, v .store refl)) },
+)
+
+-- a draw that goes by the draw rules
+pub draw-did : (d : DrawCall) (c : Context) (s : List ℕ) (r : Drawn) (out out′ : List Float) → Sound c × (length s ≡ buffer.storeBytes)
+    → Draws (drawing (view c s .stacks) (view c s .objects) (view c s .attributes) d) r out out′
+    → Did (calls.draw d) c s (r .number) (noted (r .number) c) s × Drew d c s r out out′
+draw-did d c s r out out′ h e = (
+  record {
+    invalid = λ q. absurd (q (record { sound = h .0; store = λ _. h .1 }));
+    follows = λ v. record {
+      number = e .number;
+      state = λ i. record {
+        mode = c .mode;
+        stacks = view c s .stacks;
+        objects = view c s .objects;
+        attributes = c .attributes;
+        pipeline = c .pipeline;
+        error = slotAfter (e .number i) (c .error);
+      };
+      sound = record { stacks = v .sound .stacks; buffers = v .sound .buffers; client-unit = v .sound .client-unit; active-unit = v .sound .active-unit };
+      stacks = refl;
+      slots = λ _. refl;
+      refusal = λ q. (inl refl, refl);
+    };
+    size = refl;
+  },
+  record { invalid = λ q. absurd (q (record { sound = h .0; store = λ _. h .1 })); drawn = λ v. e },
+)
+
+-- the same, from what the inner draw makes of the context's scene
+pub draw-from : (source : Source) (mode stages base : ℕ) (guest : List ℕ) (c : Context) (s : List ℕ) (x : Scene) (r : Drawn) (out out′ : List Float) → x ≡ sceneFor c base stages
+    → Sound c × (length s ≡ buffer.storeBytes) → Draws (drawIn (sceneIn x s guest) (c .buffers .«element_buffer») mode source (length out)) r out out′
+    → Did (calls.draw (drawCall source mode stages base guest (length out))) c s (r .number) (noted (r .number) c) s × Drew (drawCall source mode stages base guest (length out)) c s r out out′
+draw-from source mode stages base guest c s x r out out′ e h d =
+    draw-did (drawCall source mode stages base guest (length out)) c s r out out′ h
+    (subst (λ y. Draws (drawIn (sceneIn y s guest) (c .buffers .«element_buffer») mode source (length out)) r out out′) e d)
 
 -- ---- a fresh context
 

@@ -1,4 +1,4 @@
--- The calls that draw nothing, with all their arguments and borrowed data, in groups by the part of the state that they touch.
+-- The calls, with all their arguments and borrowed data, in groups by the part of the state that they touch.
 use mathlib.Core.Bool.{Bool, true, false}
 use mathlib.Core.List.{List}
 use Prim.Native.Nat.{ℕ}
@@ -6,6 +6,7 @@ use Rattle.stack.specs.Stack.{MatrixCall}
 use Rattle.arrays.specs.Arrays.{ArrayCall}
 use Rattle.arrays.specs.Attributes.{AttributeCall}
 use Rattle.pipeline.specs.Pipeline.{PipelineCall}
+use Rattle.draw.specs.Scene.{DrawCall}
 
 pub data BufferCall : Type 0 where
   gen : (n : ℕ) → BufferCall
@@ -26,6 +27,7 @@ pub data Call : Type 0 where
   attribute : AttributeCall → Call
   pipeline : PipelineCall → Call
   takeError : Call
+  draw : DrawCall → Call
 
 -- a property of buffer calls, false of all others
 abbrev pub ofBuffers : (BufferCall → Bool) → Call → Bool
@@ -36,6 +38,7 @@ ofBuffers p (object (array k)) = false
 ofBuffers p (attribute k) = false
 ofBuffers p (pipeline k) = false
 ofBuffers p takeError = false
+ofBuffers p (draw d) = false
 
 abbrev pub isUpload : BufferCall → Bool
 isUpload (gen n) = false
@@ -46,7 +49,14 @@ isUpload (bufferSubData target offset bytes) = true
 
 -- the calls that borrow the store
 abbrev pub borrowsStore : Call → Bool
-borrowsStore call = ofBuffers isUpload call
+borrowsStore (matrix k) = false
+borrowsStore (mode code) = false
+borrowsStore (object (buffer k)) = isUpload k
+borrowsStore (object (array k)) = false
+borrowsStore (attribute k) = false
+borrowsStore (pipeline k) = false
+borrowsStore takeError = false
+borrowsStore (draw d) = true
 
 abbrev pub isBind : BufferCall → Bool
 isBind (gen n) = false

@@ -6,6 +6,7 @@ use mathlib.Core.Option.{Option, some, none}
 use mathlib.Core.Path.{_≡_}
 use Prim.Native.Nat.{ℕ}
 use lib.ListN.{length}
+use lib.Ieee.{Float}
 use Rattle.stack.specs.Stack.{MatrixCall, stackAnswer}
 use Rattle.stack.specs.declared.MatrixStack.{MatrixStack}
 use Rattle.buffers.specs.Objects.{storeBytes}
@@ -13,14 +14,20 @@ use Rattle.buffers.specs.declared.Buffers.{Buffers}
 use Rattle.arrays.specs.declared.Arrays.{Arrays}
 use Rattle.arrays.specs.declared.Attributes.{Attributes}
 use Rattle.pipeline.specs.declared.Pipeline.{Pipeline}
+use Rattle.matrix.specs.Matrix.{product}
+use Rattle.draw.specs.Scene.{Source, DrawCall}
+use Rattle.draw.specs.declared.Scene.{Scene}
+use Rattle.draw.specs.Draw.{Draws}
+use Rattle.draw.specs.declared.Drawn.{Drawn}
 use Rattle.context.specs.declared.MatrixMode.{MatrixMode}
 use Rattle.context.specs.declared.Stacks.{Stacks}
 use Rattle.context.specs.declared.Context.{Context}
 use Rattle.context.specs.declared.ModeChoice.{ModeChoice}
 use Rattle.context.specs.declared.Reply.{Reply}
+use Rattle.context.specs.declared.DrawReply.{DrawReply}
 use Rattle.context.specs.State.{stackAt, view, Sound}
-use Rattle.context.specs.Calls.{ofBuffers, borrowsStore, isBind, Call, matrix, mode, object, attribute, pipeline, takeError}
-use Rattle.context.specs.Rules.{slotAfter, numberOf, step}
+use Rattle.context.specs.Calls.{ofBuffers, borrowsStore, isBind, Call, matrix, mode, object, attribute, pipeline, takeError, draw}
+use Rattle.context.specs.Rules.{slotAfter, drawing, numberOf, step}
 
 -- ---- one part of a context replaced
 
@@ -69,6 +76,7 @@ stacksAfter (object k) c = c .stacks
 stacksAfter (attribute k) c = c .stacks
 stacksAfter (pipeline k) c = c .stacks
 stacksAfter takeError c = c .stacks
+stacksAfter (draw d) c = c .stacks
 
 -- a refusal changes nothing but the slot, save that bind at a refused target, 0x0500, still makes the name
 abbrev pub RefusalKeeps : Call → ℕ → Context → Context → Type 0
@@ -94,6 +102,11 @@ pub record Did (call : Call) (c : Context) (s : List ℕ) (n : ℕ) (c′ : Cont
 abbrev pub Does : Call → Context → ℕ → Context → Type 0
 Does call c n c′ = (s : List ℕ) → Did call c s n c′ s
 
+-- What a draw promises besides: its count of triangles, and the output before and after. A draw that is not valid counts 0 and leaves the output.
+pub record Drew (d : DrawCall) (c : Context) (s : List ℕ) (r : Drawn) (out out′ : List Float) : Type 0 where
+  pub invalid : (Valid (draw d) c s → ⊥) → (r .count ≡ 0) × (out′ ≡ out)
+  pub drawn : Valid (draw d) c s → Draws (drawing (view c s .stacks) (view c s .objects) (view c s .attributes) d) r out out′
+
 -- ---- for the code
 
 abbrev pub reply : ℕ → Context → Reply
@@ -107,3 +120,26 @@ modeOf ModeChoice.Unknown = none
 pub record Settled (c : Context) (r : Reply) (out : Reply) : Type 0 where
   pub sound : Sound c → out ≡ r
   pub unsound : (Sound c → ⊥) → out ≡ reply 1 c
+
+-- what a draw's vertices are made from, in the code's record
+abbrev pub sceneFor : Context → ℕ → ℕ → Scene
+sceneFor c base stages =
+    record {
+      transform = product (c .stacks .projection .current .entries) (c .stacks .modelview .current .entries);
+      modelview = c .stacks .modelview .current .entries;
+      texture = c .stacks .texture .current .entries;
+      buffers = c .buffers;
+      arrays = c .arrays;
+      attributes = c .attributes;
+      base = base;
+      stages = stages;
+    }
+
+abbrev pub drawReply : ℕ → ℕ → Context → DrawReply
+drawReply n count c = record { number = n; count = count; context = c }
+
+abbrev pub drawnOf : DrawReply → Drawn
+drawnOf r = record { number = r .number; count = r .count }
+
+abbrev pub drawCall : Source → ℕ → ℕ → ℕ → List ℕ → ℕ → DrawCall
+drawCall src m st b g n = record { source = src; mode = m; stages = st; base = b; guest = g; room = n }

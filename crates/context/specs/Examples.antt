@@ -7,7 +7,7 @@ use Rattle.buffers.specs.Objects as objects
 use Rattle.buffers.specs.Bounded.{count}
 use Rattle.arrays.specs.Arrays.{vertexPointer, accepted, arrayStep}
 use Rattle.context.specs.State.{State, freshState}
-use Rattle.context.specs.Calls.{bind, delete, buffer, array, Call, matrix, mode, object, takeError}
+use Rattle.context.specs.Calls.{gen, bind, delete, buffer, array, Call, matrix, mode, object, takeError}
 use Rattle.context.specs.Rules.{numberOf, step}
 
 -- the state after a list of calls
@@ -29,6 +29,15 @@ bind-lives = refl
 pub bind-next : after (bind5 ∷ []) .objects .buffers .next ≡ 6
 unfolding objects.bindBuffer objects.named objects.liveNames count
 bind-next = refl
+
+-- 16 names fit, and the largest name is 2^32-2
+pub gen-limits : (numberOf (object (buffer (gen 16))) freshState ≡ 0) × (numberOf (object (buffer (gen 17))) freshState ≡ 4)
+unfolding objects.genBuffers objects.liveNames count
+gen-limits = (refl, refl)
+
+pub last-name : (numberOf (object (buffer (bind 0x8892 4294967294))) freshState ≡ 0) × (numberOf (object (buffer (bind 0x8892 4294967295))) freshState ≡ 5)
+unfolding objects.bindBuffer objects.liveNames count
+last-name = (refl, refl)
 
 -- the slot keeps the first code, and take_error empties it
 pub first-code-stays : after (mode 7 ∷ matrix pop ∷ []) .error ≡ 0x0500

@@ -1,4 +1,4 @@
--- What each call answers and makes of the state of a sound context (01: all sections but "Draws").
+-- What each call answers and makes of the state of a sound context (01, whole; the draw rules are crate draw's).
 use mathlib.Core.Bool.{Bool, true, false, cond, _&&_}
 use mathlib.Core.List.{List, [], _∷_}
 use mathlib.Core.Option.{Option, some, none, Option·getD}
@@ -13,9 +13,11 @@ use Rattle.arrays.specs.Attributes.{attributeStep}
 use Rattle.arrays.specs.declared.Attributes.{Attributes}
 use Rattle.pipeline.specs.Pipeline.{pipelineStep}
 use Rattle.pipeline.specs.declared.Pipeline.{Pipeline}
+use Rattle.draw.specs.Scene.{DrawState, DrawCall}
+use Rattle.draw.specs.Draw.{Drawing, drawOf}
 use Rattle.context.specs.declared.MatrixMode.{MatrixMode}
 use Rattle.context.specs.State.{ObjectState, State}
-use Rattle.context.specs.Calls.{BufferCall, gen, bind, delete, bufferData, bufferSubData, ObjectCall, buffer, array, Call, matrix, mode, object, attribute, pipeline, takeError}
+use Rattle.context.specs.Calls.{BufferCall, gen, bind, delete, bufferData, bufferSubData, ObjectCall, buffer, array, Call, matrix, mode, object, attribute, pipeline, takeError, draw}
 
 -- ---- one part of the state replaced
 
@@ -80,6 +82,25 @@ abbrev pub objectStep : ObjectCall → ObjectState → ObjectState
 objectStep (buffer k) o = record { buffers = bufferAnswer k (o .buffers) .after; arrays = o .arrays }
 objectStep (array k) o = record { buffers = o .buffers; arrays = arrayStep k (o .buffers .array) (o .arrays) .arrays }
 
+-- ---- draws
+
+-- what a draw reads of the state: the current matrices, the buffers, the arrays and the current values, and nothing else
+abbrev pub drawState : (MatrixMode → StackState) → ObjectState → Attributes → DrawState
+drawState stacks o a =
+    record {
+      modelview = stacks MatrixMode.Modelview .current .entries;
+      projection = stacks MatrixMode.Projection .current .entries;
+      texture = stacks MatrixMode.Texture .current .entries;
+      contents = o .buffers .contents;
+      element = o .buffers .element;
+      arrays = o .arrays;
+      attributes = a;
+    }
+
+-- a draw's number and triangles, by the three stacks, the objects and the current values
+abbrev pub drawing : (MatrixMode → StackState) → ObjectState → Attributes → DrawCall → Drawing
+drawing stacks o a d = drawOf (drawState stacks o a) d
+
 -- ---- all calls
 
 -- the number that a call answers, 0 for done
@@ -90,8 +111,9 @@ numberOf (object k) s = objectNumber k (s .objects)
 numberOf (attribute k) s = attributeStep k (s .attributes) .number
 numberOf (pipeline k) s = pipelineStep k (s .pipeline) .number
 numberOf takeError s = 0
+numberOf (draw d) s = drawing (s .stacks) (s .objects) (s .attributes) d .number
 
--- what a call makes of the part that it touches: a matrix call touches the stack of the mode in force, take_error empties the error slot
+-- what a call makes of the part that it touches: a matrix call touches the stack of the mode in force, take_error empties the error slot, a draw touches nothing
 abbrev pub effect : Call → State → State
 effect (matrix k) s = withStacks (λ m. cond (sameMode m (s .mode)) (stackStep k (s .stacks m)) (s .stacks m)) s
 effect (mode code) s = withMode (modeAfter code (s .mode)) s
@@ -99,6 +121,7 @@ effect (object k) s = withObjects (objectStep k (s .objects)) s
 effect (attribute k) s = withAttributes (attributeStep k (s .attributes) .attributes) s
 effect (pipeline k) s = withPipeline (pipelineStep k (s .pipeline) .pipeline) s
 effect takeError s = withError 0 s
+effect (draw d) s = s
 
 -- the error slot after an answer: it keeps the first code, and only codes from 0x0500 enter it
 abbrev pub slotAfter : ℕ → ℕ → ℕ

@@ -7,6 +7,9 @@ use arrays::UNIT_COUNT;
 use buffers::Answered;
 use buffers::Buffers;
 use buffers::INVALID;
+use buffers::STORE_BYTES;
+use draw::Drawn;
+use draw::Scene;
 use pipeline::Pipeline;
 use pipeline::PipelineAnswer;
 use stack::MatrixStack;
@@ -16,10 +19,11 @@ ghost use Prim.Native.Nat.{_<_};
 ghost use Rattle.number.specs.Decides.{Decides};
 ghost use Rattle.number.specs.Tables.{lookup};
 ghost use Rattle.stack.specs.Stack as stack;
+ghost use Rattle.buffers.specs.Objects.{storeBytes};
 ghost use Rattle.arrays.specs.Arrays.{unitCount};
 ghost use Rattle.context.specs.State.{stackAt, Sound, SoundApart, Fresh};
 ghost use Rattle.context.specs.Rules.{matrixModes, slotAfter};
-ghost use Rattle.context.specs.Contract.{putStack, putStacks, putBuffers, putArrays, putAttributes, putPipeline, noted, modeOf, reply, Settled};
+ghost use Rattle.context.specs.Contract.{putStack, putStacks, putBuffers, putArrays, putAttributes, putPipeline, noted, modeOf, reply, Settled, sceneFor, drawReply};
 
 // The stack that matrix calls go to.
 pub enum MatrixMode {
@@ -62,6 +66,13 @@ pub struct GenReply {
 pub struct ErrorReply {
     pub number: u32,
     pub code: u32,
+    pub context: Context,
+}
+
+// A draw's answer, with the number of its triangles.
+pub struct DrawReply {
+    pub number: u32,
+    pub count: usize,
     pub context: Context,
 }
 
@@ -304,6 +315,57 @@ impl Context {
         out.error = error;
         Reply {
             number,
+            context: out,
+        }
+    }
+
+    // Whether the context is sound and the store has its length.
+    pub fn is_ready(self, len: usize) -> bool
+        ensures { λ r. ⌜ Decides (Sound self × (len ≡ storeBytes)) r ⌝ }
+    {
+        if len != STORE_BYTES {
+            return false;
+        }
+        self.is_sound()
+    }
+
+    // What a draw's vertices are made from.
+    pub fn scene(self, base: u32, stages: u32) -> Scene
+        ensures { λ r. ⌜ r ≡ sceneFor self base stages ⌝ }
+    {
+        let stacks = self.stacks;
+        let view = stacks.modelview.current;
+        let lens = stacks.projection.current;
+        let coordinates = stacks.texture.current;
+        let modelview = view.entries;
+        let projection = lens.entries;
+        let texture = coordinates.entries;
+        let transform = matrix::multiply(projection, modelview);
+        let buffers = self.buffers;
+        let arrays = self.arrays;
+        let attributes = self.attributes;
+        Scene {
+            transform,
+            modelview,
+            texture,
+            buffers,
+            arrays,
+            attributes,
+            base,
+            stages,
+        }
+    }
+
+    // The reply of a draw.
+    pub fn answer_draw(self, d: Drawn) -> DrawReply
+        ensures { λ r. ⌜ r ≡ drawReply (d .number) (d .count) (noted (d .number) self) ⌝ }
+    {
+        let error = slot_after(d.number, self.error);
+        let mut out = self;
+        out.error = error;
+        DrawReply {
+            number: d.number,
+            count: d.count,
             context: out,
         }
     }

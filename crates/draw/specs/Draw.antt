@@ -9,8 +9,9 @@ use lib.Ieee.{Float}
 use Rattle.buffers.specs.Bounded.{first}
 use Rattle.fetch.specs.Fetch.{Part, bytes, noBuffer, unreadable, positionNumber}
 use Rattle.fetch.specs.declared.ArrayPointer.{ArrayPointer}
+use Rattle.fetch.specs.declared.PartState.{PartState}
 use Rattle.draw.specs.Scene.{DrawState, Source, list, range, elements, DrawCall, Scene, sceneOf}
-use Rattle.draw.specs.Index.{indexWidth, indexPart, indicesOf}
+use Rattle.draw.specs.Index.{indexWidth, indexPart, indicesFrom}
 use Rattle.draw.specs.Vertex.{positionOf, vertexOf}
 use Rattle.draw.specs.Triangles.{triangleCount, Triangle, trianglesTo, wordsOf}
 use Rattle.draw.specs.declared.Primitive.{Primitive}
@@ -64,26 +65,27 @@ partNumber element noBuffer = 0x0501
 partNumber element unreadable = cond (eqb element 0) 7 0x0501
 
 -- of a draw whose indices lie in the element buffer or in guest memory
-abbrev pub elementsNumber : DrawState → DrawCall → ℕ → ℕ → ℕ → ℕ
-elementsNumber s d count ty pointer =
+unfoldable pub elementsNumber : Scene → ℕ → ℕ → ℕ → ℕ → ℕ
+elementsNumber s element count ty pointer =
     cond (eqb (indexWidth ty) 0) 0x0500
     (cond (leb 18446744073709551616 (count * indexWidth ty)) 0x0501
-    (partNumber (s .element) (indexPart s (d .base) (d .guest) count ty pointer)))
+    (partNumber element (indexPart s element count ty pointer)))
 
--- an empty list of such a draw ends with 0, whatever the mode
-abbrev pub sourceNumber : DrawState → DrawCall → Source → ℕ
-sourceNumber s d (list is) = listNumber (sceneOf s d) (d .mode) (indicesOf s d)
-sourceNumber s d (range first count) = listNumber (sceneOf s d) (d .mode) (indicesOf s d)
-sourceNumber s d (elements count ty pointer) =
-    cond (not (eqb (elementsNumber s d count ty pointer) 0)) (elementsNumber s d count ty pointer)
-    (cond (eqb count 0) 0 (listNumber (sceneOf s d) (d .mode) (indicesOf s d)))
+-- such a draw of no index ends with 0, whatever the mode
+abbrev pub sourceNumber : Scene → ℕ → ℕ → Source → ℕ
+sourceNumber s element mode (list is) = listNumber s mode (indicesFrom s element (list is))
+sourceNumber s element mode (range first count) = listNumber s mode (indicesFrom s element (range first count))
+sourceNumber s element mode (elements count ty pointer) =
+    cond (not (eqb (elementsNumber s element count ty pointer) 0)) (elementsNumber s element count ty pointer)
+    (cond (eqb count 0) 0 (listNumber s mode (indicesFrom s element (elements count ty pointer))))
+
+-- of the guest view and the mask, before the number n of what follows
+unfoldable pub viewNumber : ℕ → ℕ → ℕ → ℕ → ℕ
+viewNumber base len stages n = cond (ltb 4294967296 (base + len)) 2 (cond (leb 16 stages) 3 n)
 
 -- the number of the first no before the room in the output
-unfoldable pub validation : DrawState → DrawCall → ℕ
-validation s d =
-    cond (ltb 4294967296 (d .base + length (d .guest))) 2
-    (cond (leb 16 (d .stages)) 3
-    (sourceNumber s d (d .source)))
+abbrev pub validation : Scene → ℕ → ℕ → Source → ℕ
+validation s element mode source = viewNumber (s .base) (length (s .guest)) (s .stages) (sourceNumber s element mode source)
 
 -- ---- the draw
 
@@ -98,8 +100,12 @@ answered number room ts =
     (cond (ltb room (51 * length ts)) (record { number = 11; triangles = [] })
     (record { number = 0; triangles = ts }))
 
-unfoldable pub drawOf : DrawState → DrawCall → Drawing
-drawOf s d = answered (validation s d) (d .room) (trianglesOf (sceneOf s d) (d .mode) (indicesOf s d))
+-- by the scene, the element binding and the draw's arguments
+unfoldable pub drawIn : Scene → ℕ → ℕ → Source → ℕ → Drawing
+drawIn s element mode source room = answered (validation s element mode source) room (trianglesOf s mode (indicesFrom s element source))
+
+abbrev pub drawOf : DrawState → DrawCall → Drawing
+drawOf s d = drawIn (sceneOf s d) (s .element) (d .mode) (d .source) (d .room)
 
 -- the output: the triangles first, the rest as it was
 abbrev pub outputOf : List Triangle → List Float → List Float
@@ -110,3 +116,11 @@ pub record Draws (d : Drawing) (r : Drawn) (out out′ : List Float) : Type 0 wh
   pub number : r .number ≡ d .number
   pub count : r .count ≡ length (d .triangles)
   pub output : out′ ≡ outputOf (d .triangles) out
+
+-- ---- for the code
+
+-- the number of a part of which the code knows only whether it is there
+abbrev pub stateNumber : ℕ → PartState → ℕ
+stateNumber element PartState.Found = 0
+stateNumber element PartState.NoBuffer = 0x0501
+stateNumber element PartState.Unreadable = cond (eqb element 0) 7 0x0501

@@ -3,4 +3,3 @@ pub mod Index
 pub mod Vertex
 pub mod Triangles
 pub mod Draw
-pub mod Examples

@@ -5,19 +5,20 @@ use arrays::Pair;
 use buffers::Buffers;
 use fetch::ArrayPointer;
 use fetch::Fetched;
+use fetch::PartState;
 ghost use mathlib.Core.Path.{_≡_};
 ghost use mathlib.Core.Bool.{true, false, cond, not};
-ghost use Prim.Native.Nat.{ℕ, _+_, _-_, _*_, _/_, _%_, _<_, _≤_};
+ghost use Prim.Native.Nat.{ℕ, _+_, _-_, _*_, _/_, _%_, _<_, _≤_, min};
 ghost use lib.Dec.{eqb};
 ghost use lib.ListN.{length, getD};
 ghost use lib.Seq.{sets};
 ghost use Rattle.buffers.specs.Bounded.{first};
 ghost use Rattle.arrays.specs.Attributes.{noPair};
-ghost use Rattle.draw.specs.Scene.{sceneIn};
-ghost use Rattle.draw.specs.Index.{upFrom, numbers, indexList};
+ghost use Rattle.draw.specs.Scene.{Source, sceneIn};
+ghost use Rattle.draw.specs.Index.{upFrom, numbers, indexWidth, indexList};
 ghost use Rattle.draw.specs.Vertex.{componentsOr, objectPosition, colorOf, hasStage, transformedPair, stagePair, pairOf, positionOf, vertexOf, four, vertexWords};
 ghost use Rattle.draw.specs.Triangles.{triangleCount, cornersOf, threeWords, trianglesTo, wordsOf};
-ghost use Rattle.draw.specs.Draw.{primitiveOf, vertexAt, trianglesOf, positionAt, fails, hasVertices, listNumber, answered, Draws};
+ghost use Rattle.draw.specs.Draw.{primitiveOf, vertexAt, trianglesOf, positionAt, fails, hasVertices, listNumber, elementsNumber, viewNumber, answered, drawIn, Draws, stateNumber};
 
 // Where the indices of a draw come from: the borrowed list; from a number up to another, the end left out; bytes or little-endian shorts of the borrowed element bytes.
 pub enum Indices {
@@ -470,8 +471,24 @@ pub struct Drawn {
     pub count: usize,
 }
 
-// Draws a list of indices, unless `number` refuses it already or it is refused here.
-pub fn draw_indices<'a>(
+// The number of the questions on the guest view and on the mask, 0 where there is no no.
+fn view_number(base: u32, len: usize, stages: u32) -> u32
+    ensures { λ r. ⌜ r ≡ viewNumber base len stages 0 ⌝ }
+{
+    if 0x1_0000_0000 < len {
+        return 2;
+    }
+    if 0x1_0000_0000 - len < base as usize {
+        return 2;
+    }
+    if 16 <= stages {
+        return 3;
+    }
+    0
+}
+
+// Draws a list of indices.
+fn draw_indices<'a>(
     s: Scene,
     store: &'a [u8],
     guest: &'a [u8],
@@ -498,4 +515,161 @@ pub fn draw_indices<'a>(
     }
     write_triangles(s, store, guest, p, kind, list, elements, count, out);
     Drawn { number: 0, count }
+}
+
+// Draws a borrowed list of indices.
+pub fn draw_list<'a>(
+    s: Scene,
+    store: &'a [u8],
+    guest: &'a [u8],
+    mode: u32,
+    list: &[u32],
+    out: &mut [f32],
+) -> Drawn
+    ensures { λ r. ⌜ ((element : ℕ) → Draws (drawIn (sceneIn s (now (store .entry)) (now (guest .entry))) element mode (Source.list (now (list .entry))) (length (now (out .entry)))) r (now (out .entry)) (now (out .exit))) ⌝ }
+{
+    let number = view_number(s.base, guest.len(), s.stages);
+    if number != 0 {
+        return Drawn { number, count: 0 };
+    }
+    let kind = Indices::List;
+    draw_indices(s, store, guest, mode, kind, list, store, out)
+}
+
+// Where a range of indices ends.
+fn range_end(first: u32, count: u32) -> u32
+    ensures { λ r. ⌜ r ≡ min (first + count) 4294967295 ⌝ }
+{
+    let sum = (first as u64) + (count as u64);
+    if sum < 0xffff_ffff {
+        return sum as u32;
+    }
+    0xffff_ffff
+}
+
+// Draws the indices from `first` on.
+pub fn draw_range<'a>(
+    s: Scene,
+    store: &'a [u8],
+    guest: &'a [u8],
+    mode: u32,
+    first: u32,
+    count: u32,
+    out: &mut [f32],
+) -> Drawn
+    ensures { λ r. ⌜ ((element : ℕ) → Draws (drawIn (sceneIn s (now (store .entry)) (now (guest .entry))) element mode (Source.range first count) (length (now (out .entry)))) r (now (out .entry)) (now (out .exit))) ⌝ }
+{
+    let number = view_number(s.base, guest.len(), s.stages);
+    if number != 0 {
+        return Drawn { number, count: 0 };
+    }
+    let end = range_end(first, count);
+    let kind = Indices::Range(first, end);
+    let none: [u32; 1] = [0];
+    draw_indices(s, store, guest, mode, kind, &none, store, out)
+}
+
+// Bytes of an index, 0 for an unknown type.
+fn index_width(ty: u32) -> usize
+    ensures { λ r. ⌜ r ≡ indexWidth ty ⌝ }
+{
+    if ty == 0x1401 {
+        return 1;
+    }
+    if ty == 0x1403 {
+        return 2;
+    }
+    0
+}
+
+// The kind of indices of a width.
+fn kind_of(width: usize) -> Indices
+    ensures { λ r. ⌜ r ≡ cond (eqb width 1) Indices.Bytes Indices.Shorts ⌝ }
+{
+    if width == 1 {
+        return Indices::Bytes;
+    }
+    Indices::Shorts
+}
+
+// The number of the questions on indices that lie in the element buffer or in guest memory.
+fn stored_number<'a>(
+    s: Scene,
+    store: &'a [u8],
+    guest: &'a [u8],
+    element: u32,
+    count: u32,
+    ty: u32,
+    pointer: u32,
+) -> u32
+    ensures { λ r. ⌜ r ≡ elementsNumber (sceneIn s (now (store .entry)) (now (guest .entry))) element count ty pointer ⌝ }
+{
+    let width = index_width(ty);
+    if width == 0 {
+        return 0x0500;
+    }
+    let n = count as usize;
+    if 0xffff_ffff_ffff_ffff / width < n {
+        return 0x0501;
+    }
+    let buffers = s.buffers;
+    let state = fetch::part_state(buffers, store, s.base, guest, element, pointer, n * width);
+    part_number(state, element)
+}
+
+fn part_number(state: PartState, element: u32) -> u32
+    ensures { λ r. ⌜ r ≡ stateNumber element state ⌝ }
+{
+    match state {
+        PartState::Found => 0,
+        PartState::NoBuffer => 0x0501,
+        PartState::Unreadable => { if element == 0 { 7 } else { 0x0501 } }
+    }
+}
+
+// Draws indices that lie in the element buffer, or in guest memory where none is bound.
+pub fn draw_stored<'a>(
+    s: Scene,
+    store: &'a [u8],
+    guest: &'a [u8],
+    mode: u32,
+    element: u32,
+    count: u32,
+    ty: u32,
+    pointer: u32,
+    out: &mut [f32],
+) -> Drawn
+    ensures { λ r. ⌜ Draws (drawIn (sceneIn s (now (store .entry)) (now (guest .entry))) element mode (Source.elements count ty pointer) (length (now (out .entry)))) r (now (out .entry)) (now (out .exit)) ⌝ }
+{
+    let view = view_number(s.base, guest.len(), s.stages);
+    if view != 0 {
+        return Drawn {
+            number: view,
+            count: 0,
+        };
+    }
+    let number = stored_number(s, store, guest, element, count, ty, pointer);
+    if number != 0 {
+        return Drawn { number, count: 0 };
+    }
+    if count == 0 {
+        return Drawn {
+            number: 0,
+            count: 0,
+        };
+    }
+    let width = index_width(ty);
+    let buffers = s.buffers;
+    let bytes = fetch::part(
+        buffers,
+        store,
+        s.base,
+        guest,
+        element,
+        pointer,
+        (count as usize) * width,
+    );
+    let kind = kind_of(width);
+    let none: [u32; 1] = [0];
+    draw_indices(s, store, guest, mode, kind, &none, bytes, out)
 }

@@ -1,7 +1,7 @@
 -- A fetch (01: "Pointers and attributes", "Fetch and decode"): an element's address, its bytes, and the answer.
 use Prim.Native.Nat.{ℕ, _+_, _-_, _*_, _≤_}
 use mathlib.Core.Bool.{Bool, true, false, cond, _&&_}
-use mathlib.Core.List.{List}
+use mathlib.Core.List.{List, []}
 use mathlib.Core.Option.{Option, some, none}
 use mathlib.Core.Path.{_≡_}
 use lib.Dec.{eqb, ltb, leb}
@@ -11,6 +11,7 @@ use Rattle.fetch.specs.declared.ArrayPointer.{ArrayPointer}
 use Rattle.fetch.specs.declared.Fetched.{Fetched}
 use Rattle.fetch.specs.declared.Address.{Address}
 use Rattle.fetch.specs.declared.Place.{Place}
+use Rattle.fetch.specs.declared.PartState.{PartState}
 
 abbrev pub freshArray : ArrayPointer
 freshArray = record { enabled = false; size = 4; ty = 0x1406; stride = 0; pointer = 0; buffer = 0 }
@@ -60,6 +61,12 @@ inGuest base guest address len =
 unfoldable pub partOf : (ℕ → Option (List ℕ)) → ℕ → List ℕ → ℕ → ℕ → ℕ → Part
 partOf contents base guest buffer address len = cond (eqb buffer 0) (inGuest base guest address len) (inBuffer (contents buffer) address len)
 
+-- a part's bytes, none where there are none
+abbrev pub bytesIn : Part → List ℕ
+bytesIn (bytes bs) = bs
+bytesIn noBuffer = []
+bytesIn unreadable = []
+
 -- ---- the fetch
 
 abbrev pub decoded : ArrayPointer → Bool → Part → Fetched
@@ -85,6 +92,11 @@ positionNumber Fetched.NoBuffer = 9
 positionNumber Fetched.Unreadable = 9
 
 -- ---- for the code
+
+abbrev pub stateOf : Part → PartState
+stateOf (bytes bs) = PartState.Found
+stateOf noBuffer = PartState.NoBuffer
+stateOf unreadable = PartState.Unreadable
 
 -- the bytes that an element is a part of: with buffer 0 the guest's, else the store's
 abbrev pub sourceOf : ℕ → List ℕ → List ℕ → List ℕ

@@ -10,7 +10,7 @@ ghost use lib.ListN.{length, take, drop};
 ghost use Rattle.number.specs.Numbers.{le, signedAt};
 ghost use Rattle.buffers.specs.Objects.{slotCount, slotBytes, contentsOf, lenAt};
 ghost use Rattle.fetch.specs.Decode.{componentBytes, unsignedComponent, signedComponent, componentOf, component, vectorOf, OneTwoFour};
-ghost use Rattle.fetch.specs.Fetch.{freshArray, addressOf, fetched, inBuffer, inGuest, partOf, positionNumber, sourceOf, Located};
+ghost use Rattle.fetch.specs.Fetch.{freshArray, addressOf, fetched, inBuffer, inGuest, partOf, positionNumber, stateOf, bytesIn, sourceOf, Located};
 
 // Four components.
 pub struct Vec4 {
@@ -328,6 +328,52 @@ pub fn fetch<'a>(
                 }
             }
         }
+    }
+}
+
+// Whether a range of bytes is there: in the named buffer, or with buffer 0 in guest memory.
+pub enum PartState {
+    Found,
+    NoBuffer,
+    Unreadable,
+}
+
+pub fn part_state(
+    b: Buffers,
+    store: &[u8],
+    base: u32,
+    guest: &[u8],
+    buffer: u32,
+    address: u32,
+    len: usize,
+) -> PartState
+    ensures { λ r. ⌜ r ≡ stateOf (partOf (contentsOf (b .slots) (now (store .entry))) base (now (guest .entry)) buffer address len) ⌝ }
+{
+    let place = find_place(b, store, base, guest, buffer, address, len);
+    match place {
+        Place::At(_) => PartState::Found,
+        Place::NoBuffer => PartState::NoBuffer,
+        Place::Unreadable => PartState::Unreadable,
+    }
+}
+
+// The bytes of such a range, none where it is not there.
+pub fn part<'a>(
+    b: Buffers,
+    store: &'a [u8],
+    base: u32,
+    guest: &'a [u8],
+    buffer: u32,
+    address: u32,
+    len: usize,
+) -> &'a [u8]
+    ensures { λ r. ⌜ now r ≡ bytesIn (partOf (contentsOf (b .slots) (now (store .entry))) base (now (guest .entry)) buffer address len) ⌝ }
+{
+    let place = find_place(b, store, base, guest, buffer, address, len);
+    match place {
+        Place::At(at) => element(store, guest, buffer, at, len),
+        Place::NoBuffer => &store[0..0],
+        Place::Unreadable => &store[0..0],
     }
 }
 

@@ -1,21 +1,24 @@
-// The calls that draw nothing. Each takes the context by value and gives it back with the call's number.
+// The calls. Each takes the context by value and gives it back with the call's number.
 use buffers::Answered;
 use buffers::INVALID;
 use buffers::INVALID_ENUM;
 use context::Context;
+use context::DrawReply;
 use context::ErrorReply;
 use context::GenReply;
 use context::ModeChoice;
 use context::Reply;
 ghost use mathlib.Core.Path.{_≡_};
+ghost use lib.ListN.{length};
 ghost use Rattle.stack.specs.Stack.{MatrixCall, MatrixUpdate};
 ghost use Rattle.buffers.specs.Objects.{genFirst};
 ghost use Rattle.arrays.specs.Arrays.{ArrayCall};
 ghost use Rattle.arrays.specs.Attributes.{AttributeCall};
 ghost use Rattle.pipeline.specs.Pipeline.{PipelineCall};
+ghost use Rattle.draw.specs.Scene.{Source};
 ghost use Rattle.context.specs.Calls.{Call, ObjectCall, BufferCall};
 ghost use Rattle.context.specs.Rules.{errorCode};
-ghost use Rattle.context.specs.Contract.{Did, Does};
+ghost use Rattle.context.specs.Contract.{Did, Does, Drew, drawCall, drawnOf};
 
 pub fn set_matrix_mode(c: Context, mode: u32) -> Reply
     ensures { λ r. ⌜ Does (Call.mode mode) c (r .number) (r .context) ⌝ }
@@ -357,4 +360,83 @@ pub fn take_error(c: Context) -> ErrorReply
         code,
         context: out,
     }
+}
+
+// A draw of a borrowed list of indices.
+pub fn draw_elements<'a>(
+    c: Context,
+    store: &'a [u8],
+    base: u32,
+    guest: &'a [u8],
+    mode: u32,
+    indices: &[u32],
+    stages: u32,
+    out: &mut [f32],
+) -> DrawReply
+    ensures { λ r. ⌜ Did (Call.draw (drawCall (Source.list (now (indices .entry))) mode stages base (now (guest .entry)) (length (now (out .entry))))) c (now (store .entry)) (r .number) (r .context) (now (store .entry)) ⌝ }
+    ensures { λ r. ⌜ Drew (drawCall (Source.list (now (indices .entry))) mode stages base (now (guest .entry)) (length (now (out .entry)))) c (now (store .entry)) (drawnOf r) (now (out .entry)) (now (out .exit)) ⌝ }
+{
+    if !c.is_ready(store.len()) {
+        return DrawReply {
+            number: INVALID,
+            count: 0,
+            context: c,
+        };
+    }
+    let s = c.scene(base, stages);
+    c.answer_draw(draw::draw_list(s, store, guest, mode, indices, out))
+}
+
+// A draw of the indices from `first` on.
+pub fn draw_arrays<'a>(
+    c: Context,
+    store: &'a [u8],
+    base: u32,
+    guest: &'a [u8],
+    mode: u32,
+    first: u32,
+    count: u32,
+    stages: u32,
+    out: &mut [f32],
+) -> DrawReply
+    ensures { λ r. ⌜ Did (Call.draw (drawCall (Source.range first count) mode stages base (now (guest .entry)) (length (now (out .entry))))) c (now (store .entry)) (r .number) (r .context) (now (store .entry)) ⌝ }
+    ensures { λ r. ⌜ Drew (drawCall (Source.range first count) mode stages base (now (guest .entry)) (length (now (out .entry)))) c (now (store .entry)) (drawnOf r) (now (out .entry)) (now (out .exit)) ⌝ }
+{
+    if !c.is_ready(store.len()) {
+        return DrawReply {
+            number: INVALID,
+            count: 0,
+            context: c,
+        };
+    }
+    let s = c.scene(base, stages);
+    c.answer_draw(draw::draw_range(s, store, guest, mode, first, count, out))
+}
+
+// A draw of indices in the element buffer, or in guest memory where none is bound.
+pub fn draw_elements_from_guest<'a>(
+    c: Context,
+    store: &'a [u8],
+    base: u32,
+    guest: &'a [u8],
+    mode: u32,
+    count: u32,
+    ty: u32,
+    pointer: u32,
+    stages: u32,
+    out: &mut [f32],
+) -> DrawReply
+    ensures { λ r. ⌜ Did (Call.draw (drawCall (Source.elements count ty pointer) mode stages base (now (guest .entry)) (length (now (out .entry))))) c (now (store .entry)) (r .number) (r .context) (now (store .entry)) ⌝ }
+    ensures { λ r. ⌜ Drew (drawCall (Source.elements count ty pointer) mode stages base (now (guest .entry)) (length (now (out .entry)))) c (now (store .entry)) (drawnOf r) (now (out .entry)) (now (out .exit)) ⌝ }
+{
+    if !c.is_ready(store.len()) {
+        return DrawReply {
+            number: INVALID,
+            count: 0,
+            context: c,
+        };
+    }
+    let s = c.scene(base, stages);
+    let element = c.buffers.element_buffer;
+    c.answer_draw(draw::draw_stored(s, store, guest, mode, element, count, ty, pointer, out))
 }

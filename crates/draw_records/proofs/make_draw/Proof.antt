@@ -1,0 +1,32 @@
+-- `draw_records::make_draw` meets its contract: each arm is its row.
+use Rattle.records.proofs.Records.{last-row, drew-is}
+use Rattle.records.specs.Encoding.{sourceRows, sourceOf}
+use borrow.Author.Needs.{needs}
+use Rattle.draw_records.proofs.make_draw.Statement.{statement}
+use Rattle.draw_records.proofs.make_draw.Tie as tie
+
+returns : tie.Need-returns
+unfolding sourceOf
+returns c = rw (c .before .before .before .before .match .keys1) (c .before .before .make-list-draw .ensures)
+
+returns-2 : tie.Need-returns-2
+unfolding sourceOf
+returns-2 c = rw (c .before .before .before .before .match .keys2) (c .before .before .make-range-draw .ensures)
+
+returns-3 : tie.Need-returns-3
+unfolding sourceOf
+returns-3 c = drew-is (c .before .before .before .before .before .before .before .before .before .args .bytes .now) (c .before .before .before .before .before .before .before .before .before .args .w .now) _ (last-row (sourceRows (c .before .before .before .before .before .before .before .before .before .args .w .now)) _ _ (c .before .before .before .before .match .rest)) (c .before .before .make-stored-draw .ensures)
+
+pub make-draw-spec : {M : Type 1} → statement M
+make-draw-spec =
+    tie.close
+    (tie.spec
+    (λ c κs. search needs)
+    (λ c κs. search needs)
+    (λ c κs. search needs)
+    (λ c. search needs)
+    returns
+    (λ c. search needs)
+    returns-2
+    (λ c. search needs)
+    returns-3)

@@ -1,0 +1,31 @@
+-- `draw_records::make_list_draw` meets its contract.
+use mathlib.Core.Path.{refl, ap}
+use Rattle.draw_records.proofs.Draws.{room-fits, room-is, drew-in}
+use Rattle.draw.specs.Scene.{list}
+use Rattle.history.specs.Demand3.{by-draw-elements}
+use Rattle.records.proofs.Records.{to, three}
+use borrow.Author.Needs.{needs}
+use Rattle.draw_records.proofs.make_list_draw.Statement.{statement}
+use Rattle.draw_records.proofs.make_list_draw.Tie as tie
+
+slice-relend-prefix-draw-elements : tie.Need-slice-relend-prefix-draw-elements
+slice-relend-prefix-draw-elements c = room-fits (c .before .before .before .before .before .before .before .args .w .now) (c .before .before .before .before .before .before .before .args .out .now) _ (c .before .before .draw-words .ensures)
+
+slice-aggregate-draw-elements : tie.Need-slice-aggregate-draw-elements
+slice-aggregate-draw-elements c = room-is (c .before .before .before .before .before .before .before .before .args .w .now) (c .before .before .before .before .before .before .before .before .args .out .now) _ (c .before .before .before .draw-words .ensures)
+
+returns : tie.Need-returns
+returns c = drew-in (c .before .before .before .before .before .before .before .before .before .before .before .args .w .now) (c .before .before .before .before .before .before .before .before .before .before .before .args .out .now) _ (c .before .before .before .before .before .before .draw-words .ensures) (c .before .before .before .before .before .before .before .before .before .before .before .args .bytes .now) _ (c .before .before .before .before .before .part-at .ensures) _ _ (ap list (c .before .before .before .before .words-from .ensures)) (by-draw-elements three (to _) (to _) (to _) (to _) refl (c .before .before .draw-elements .ensures))
+
+pub make-list-draw-spec : {M : Type 1} → statement M
+make-list-draw-spec =
+    tie.close
+    (tie.spec
+    (λ c κs. search needs)
+    (λ c κs. search needs)
+    (λ c κs. search needs)
+    slice-relend-prefix-draw-elements
+    slice-aggregate-draw-elements
+    (λ c κs. search needs)
+    (λ c. search needs)
+    returns)

@@ -1,0 +1,184 @@
+// Calls as records of words (specs/Encoding.antt): which there are, and the functions that make the calls of each group but the draws.
+use context::Context;
+use context::Reply;
+ghost use mathlib.Core.Bool.{true};
+ghost use mathlib.Core.Option.{some};
+ghost use mathlib.Core.Path.{_≡_};
+ghost use Rattle.context.specs.Calls.{Call, ObjectCall, BufferCall};
+ghost use Rattle.history.specs.Demand3.{Made};
+ghost use Rattle.records.specs.Encoding.{dataOf, subDataOf, matrixOf, bufferOf, arrayOf, attributeOf, pipelineOf, isRecord};
+ghost use Rattle.records.specs.Perform.{Makes, bufferValue, Gives, replyOf};
+
+// What a call answers: besides its number the first name of gen_buffers, the code of take_error or the count of a draw. `known` is false where the words were no record's.
+pub struct CallReply {
+    pub known: bool,
+    pub number: u32,
+    pub value: usize,
+    pub context: Context,
+}
+
+// ---- the calls of a group
+
+pub fn make_matrix(c: Context, code: u32, f: [f32; 16]) -> Reply
+    ensures { λ r. ⌜ Makes (Call.matrix (matrixOf code f)) c (r .number) (r .context) ⌝ }
+{
+    match code {
+        0x11 => gles::load_identity(c),
+        0x12 => gles::load_matrix(c, f),
+        0x13 => gles::mult_matrix(c, f),
+        0x14 => gles::push_matrix(c),
+        0x15 => gles::pop_matrix(c),
+        0x16 => gles::translate(c, f[0], f[1], f[2]),
+        0x17 => gles::scale(c, f[0], f[1], f[2]),
+        0x18 => gles::rotate(c, f[0], f[1], f[2], f[3], f[4]),
+        0x1a => gles::frustum(c, f[0], f[1], f[2], f[3], f[4], f[5]),
+        _ => gles::ortho(c, f[0], f[1], f[2], f[3], f[4], f[5]),
+    }
+}
+
+pub fn make_array(c: Context, code: u32, a: u32, b: u32, d: u32, e: u32) -> Reply
+    ensures { λ r. ⌜ Makes (Call.object (ObjectCall.array (arrayOf code a b d e))) c (r .number) (r .context) ⌝ }
+{
+    match code {
+        0x30 => gles::set_vertex_pointer(c, a, b, d, e),
+        0x31 => gles::set_color_pointer(c, a, b, d, e),
+        0x32 => gles::set_normal_pointer(c, a, b, d),
+        0x33 => gles::set_texcoord_pointer(c, a, b, d, e),
+        0x34 => gles::set_client_state(c, a, b == 1),
+        _ => gles::set_client_active_texture(c, a),
+    }
+}
+
+pub fn make_attribute(c: Context, code: u32, a: u32, f: [f32; 4]) -> Reply
+    ensures { λ r. ⌜ Makes (Call.attribute (attributeOf code a f)) c (r .number) (r .context) ⌝ }
+{
+    match code {
+        0x36 => gles::set_color(c, f),
+        _ => gles::set_multi_texcoord(c, a, f[1], f[2]),
+    }
+}
+
+pub fn make_pipeline(c: Context, code: u32, a: u32, b: u32, f: [f32; 4]) -> Reply
+    ensures { λ r. ⌜ Makes (Call.pipeline (pipelineOf code a b f)) c (r .number) (r .context) ⌝ }
+{
+    match code {
+        0x40 => gles::set_active_texture(c, a),
+        0x41 => gles::set_capability(c, a, b == 1),
+        0x42 => gles::tex_env(c, a, b),
+        0x43 => gles::set_tex_env_color(c, f),
+        0x44 => gles::set_depth_func(c, a),
+        0x45 => gles::set_alpha_func(c, a, f[1]),
+        0x46 => gles::set_blend_func(c, a, b),
+        0x47 => gles::set_cull_face(c, a),
+        0x48 => gles::set_front_face(c, a),
+        0x49 => gles::set_fog(c, a, f[1]),
+        _ => gles::set_depth_range(c, f[0], f[1]),
+    }
+}
+
+// The answer of a call that has no value.
+pub fn replied(r: Reply) -> CallReply
+    ensures { λ a. ⌜ a ≡ replyOf (r .number) 0 (r .context) ⌝ }
+{
+    let number = r.number;
+    let context = r.context;
+    CallReply {
+        known: true,
+        number,
+        value: 0,
+        context,
+    }
+}
+
+fn make_gen(c: Context, n: usize) -> CallReply
+    ensures { λ r. ⌜ (r .known ≡ true) × Gives (Call.object (ObjectCall.buffer (BufferCall.gen n))) c (r .number) (r .value) (r .context) ⌝ }
+{
+    let g = gles::gen_buffers(c, n);
+    let number = g.number;
+    let value = g.first as usize;
+    let context = g.context;
+    CallReply {
+        known: true,
+        number,
+        value,
+        context,
+    }
+}
+
+pub fn make_take_error(c: Context) -> CallReply
+    ensures { λ r. ⌜ (r .known ≡ true) × Gives Call.takeError c (r .number) (r .value) (r .context) ⌝ }
+{
+    let e = gles::take_error(c);
+    let number = e.number;
+    let value = e.code as usize;
+    let context = e.context;
+    CallReply {
+        known: true,
+        number,
+        value,
+        context,
+    }
+}
+
+fn make_data(c: Context, store: &mut [u8], w: &[u32], bytes: &[u8]) -> Reply
+    ensures { λ r. ⌜ Made c (now (store .entry)) (Call.object (ObjectCall.buffer (dataOf (now (bytes .entry)) (now (w .entry))))) (r .number) (r .context) (now (store .exit)) ⌝ }
+{
+    let target = words::word_at(w, 0);
+    let size = words::long_at(w, 1);
+    let usage = words::word_at(w, 3);
+    let part = words::part_at(bytes, w, 4);
+    gles::buffer_data(c, store, target, size, part, usage)
+}
+
+fn make_sub_data(c: Context, store: &mut [u8], w: &[u32], bytes: &[u8]) -> Reply
+    ensures { λ r. ⌜ Made c (now (store .entry)) (Call.object (ObjectCall.buffer (subDataOf (now (bytes .entry)) (now (w .entry))))) (r .number) (r .context) (now (store .exit)) ⌝ }
+{
+    let target = words::word_at(w, 0);
+    let offset = words::word_at(w, 1);
+    let part = words::part_at(bytes, w, 2);
+    gles::buffer_sub_data(c, store, target, offset, part)
+}
+
+pub fn make_buffer(c: Context, store: &mut [u8], code: u32, w: &[u32], bytes: &[u8]) -> CallReply
+    ensures { λ r. ⌜ (r .known ≡ true) × Made c (now (store .entry)) (Call.object (ObjectCall.buffer (bufferOf (now (bytes .entry)) code (now (w .entry))))) (r .number) (r .context) (now (store .exit)) ⌝ }
+    ensures { λ r. ⌜ r .value ≡ bufferValue (bufferOf (now (bytes .entry)) code (now (w .entry))) c (r .number) ⌝ }
+{
+    match code {
+        0x20 => make_gen(c, words::long_at(w, 0)),
+        0x21 => replied(gles::bind_buffer(c, words::word_at(w, 0), words::word_at(w, 1))),
+        0x22 => replied(gles::delete_buffers(c, w)),
+        0x23 => replied(make_data(c, store, w, bytes)),
+        _ => replied(make_sub_data(c, store, w, bytes)),
+    }
+}
+
+// ---- records
+
+// Whether a record of this code may have n words.
+pub fn is_record(code: u32, n: usize) -> bool
+    ensures { λ r. ⌜ r ≡ isRecord code n ⌝ }
+{
+    match code {
+        0x22 => true,
+        0x60 => n >= 9,
+        0x15 => n == 0,
+        0x48 => n == 1,
+        0x17 => n == 3,
+        0x31 => n == 4,
+        0x18 => n == 5,
+        0x1b => n == 6,
+        0x23 => n == 8,
+        0x61 => n == 11,
+        0x62 => n == 12,
+        0x12 => n == 16,
+        0x13 => n == 16,
+        0x11 | 0x14 | 0x50 => n == 0,
+        0x10 | 0x35 | 0x40 | 0x44 | 0x47 => n == 1,
+        0x20 | 0x34 | 0x41 | 0x45 | 0x49 => n == 2,
+        0x21 | 0x42 | 0x46 | 0x4a => n == 2,
+        0x16 | 0x32 | 0x37 => n == 3,
+        0x30 | 0x33 | 0x36 | 0x43 => n == 4,
+        0x1a | 0x24 => n == 6,
+        _ => false,
+    }
+}

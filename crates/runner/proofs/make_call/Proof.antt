@@ -1,0 +1,18 @@
+-- `runner::make_call` meets its contract: it asks whether the words are a record's.
+use mathlib.Core.Path.{sym, _∙_}
+use borrow.Author.Tests.{not-true, not-false}
+use Rattle.runner.proofs.Calls.{no-record-call, a-record-call}
+use borrow.Author.Needs.{needs}
+use Rattle.runner.proofs.make_call.Statement.{statement}
+use Rattle.runner.proofs.make_call.Tie as tie
+
+returns : tie.Need-returns
+returns c = no-record-call (c .before .before .before .before .before .before .args .bytes .now) _ (c .before .before .before .before .before .before .args .code) (c .before .before .before .before .before .before .args .w .now) (sym (c .before .is-record .ensures) ∙ not-true _ (c .if1 .taken))
+
+returns-2 : tie.Need-returns-2
+returns-2 c = a-record-call (c .before .before .before .before .before .before .before .before .before .before .before .before .before .args .bytes .now) _ (c .before .before .before .before .before .before .before .before .before .before .before .before .before .args .code) (c .before .before .before .before .before .before .before .before .before .before .before .before .before .args .w .now) (sym (c .before .before .before .before .before .before .before .before .is-record .ensures) ∙ not-false _ (c .before .before .before .before .before .before .before .if1 .left)) (c .before .before .before .before .perform .ensures)
+
+pub make-call-spec : {M : Type 1} → statement M
+make-call-spec =
+    tie.close
+    (tie.spec (λ c κs. search needs) returns (λ c κs. search needs) (λ c. search needs) (λ c. search needs) returns-2)

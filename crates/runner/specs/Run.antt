@@ -1,0 +1,47 @@
+-- What the function that makes the calls of a list promises.
+use mathlib.Core.List.{List, [], _∷_, _++_}
+use mathlib.Core.Option.{Option, some, none}
+use mathlib.Core.Path.{_≡_}
+use Prim.Native.Nat.{ℕ, _+_, _-_}
+use lib.ListN.{length}
+use lib.Ieee.{Float}
+use Rattle.buffers.specs.Objects.{storeBytes}
+use Rattle.draw.specs.Draw.{outputOf}
+use Rattle.context.specs.declared.Context.{Context}
+use Rattle.context.specs.State.{Fresh}
+use Rattle.context.specs.Calls.{Call, matrix, mode, object, attribute, pipeline, takeError, draw}
+use Rattle.history.specs.Demand3.{Logs, logs, drawReplayed, History}
+use Rattle.records.specs.Perform.{Performed}
+use Rattle.runner.specs.declared.StepReply.{StepReply}
+use Rattle.runner.specs.declared.RunReply.{RunReply}
+use Rattle.runner.specs.Lists.{decode, wordsRead}
+
+-- ---- one record of a list
+
+-- the call of a record is made, and the list goes on after it; else it ends
+pub data Steps (size place left : ℕ) (c : Context) (s : List ℕ) (out : List Float) (r : StepReply) (s1 : List ℕ) (out1 : List Float) : Option Call → Type 0 where
+  went-on : {k : Call} {n value : ℕ} → Performed c s out n value (r .context) s1 out1 k → r .place ≡ place + size → r .left ≡ left - 1 → Steps size place left c s out r s1 out1 (some k)
+  ended : r .place ≡ place → r .left ≡ 0 → r .context ≡ c → s1 ≡ s → out1 ≡ out → Steps size place left c s out r s1 out1 none
+
+-- ---- a list
+
+-- the output after a call, where the logs of the calls before it are g
+abbrev pub outputAfter : Logs → Call → List Float → List Float
+outputAfter g (matrix k) out = out
+outputAfter g (mode code) out = out
+outputAfter g (object k) out = out
+outputAfter g (attribute k) out = out
+outputAfter g (pipeline k) out = out
+outputAfter g takeError out = out
+outputAfter g (draw d) out = outputOf (drawReplayed g d .triangles) out
+
+-- the output after the calls of a list, each draw by the logs of the calls before it
+unfoldable pub outputFrom : List Call → List Call → List Float → List Float
+outputFrom before [] out = out
+outputFrom before (k ∷ l) out = outputFrom (before ++ (k ∷ [])) l (outputAfter (logs before) k out)
+
+-- A store of the wrong size is refused with 1, and nothing is done. Else the calls of the list are made, up to the first words that are no record.
+pub record Runs (words bytes s : List ℕ) (out : List Float) (r : RunReply) (s1 : List ℕ) (out1 : List Float) : Type 0 where
+  pub refused : (length s ≡ storeBytes → ⊥) → (r .number ≡ 1) × (r .read ≡ 0) × Fresh (r .context) × (s1 ≡ s) × (out1 ≡ out)
+  pub ran : length s ≡ storeBytes
+      → (r .number ≡ 0) × (r .read ≡ wordsRead bytes (length out) words) × History (decode bytes (length out) words) (r .context) s1 × (out1 ≡ outputFrom [] (decode bytes (length out) words) out)

@@ -1,0 +1,187 @@
+// The function that makes the call of a record, and the one that makes the calls of a list, one after the other (specs/Lists.antt).
+use buffers::INVALID;
+use buffers::STORE_BYTES;
+use context::Context;
+use records::CallReply;
+ghost use mathlib.Core.Option.{some};
+ghost use mathlib.Core.Path.{_≡_};
+ghost use Prim.Native.Nat.{_<_, _≤_};
+ghost use lib.ListN.{length, drop};
+ghost use Rattle.records.specs.Encoding.{callOf, recordCall};
+ghost use Rattle.records.specs.Perform.{Performs};
+ghost use Rattle.runner.specs.Lists.{recordLength, firstCall};
+ghost use Rattle.runner.specs.Run.{Steps, Runs};
+
+fn perform(
+    c: Context,
+    store: &mut [u8],
+    code: u32,
+    w: &[u32],
+    bytes: &[u8],
+    out: &mut [f32],
+) -> CallReply
+    ensures { λ r. ⌜ Performs c (now (store .entry)) (now (out .entry)) r (now (store .exit)) (now (out .exit)) (some (callOf (now (bytes .entry)) (length (now (out .entry))) code (now (w .entry)))) ⌝ }
+{
+    if code == 0x10 {
+        return records::replied(gles::set_matrix_mode(c, words::word_at(w, 0)));
+    }
+    if code < 0x20 {
+        return records::replied(records::make_matrix(c, code, words::matrix_floats(w)));
+    }
+    if code < 0x30 {
+        return records::make_buffer(c, &mut store[..], code, w, bytes);
+    }
+    if code < 0x36 {
+        let a = words::word_at(w, 0);
+        let b = words::word_at(w, 1);
+        return records::replied(records::make_array(
+            c,
+            code,
+            a,
+            b,
+            words::word_at(w, 2),
+            words::word_at(w, 3),
+        ));
+    }
+    if code < 0x40 {
+        return records::replied(records::make_attribute(
+            c,
+            code,
+            words::word_at(w, 0),
+            words::four_floats(w),
+        ));
+    }
+    if code < 0x50 {
+        return records::replied(records::make_pipeline(
+            c,
+            code,
+            words::word_at(w, 0),
+            words::word_at(w, 1),
+            words::four_floats(w),
+        ));
+    }
+    if code == 0x50 {
+        return records::make_take_error(c);
+    }
+    draw_records::drawn(draw_records::make_draw(c, &store[..], code, w, bytes, &mut out[..]))
+}
+
+// Makes the call of a code and its words. A call that borrows bytes has them from `bytes`, a draw its output from the start of `out`.
+pub fn make_call(
+    c: Context,
+    store: &mut [u8],
+    code: u32,
+    w: &[u32],
+    bytes: &[u8],
+    out: &mut [f32],
+) -> CallReply
+    ensures { λ r. ⌜ Performs c (now (store .entry)) (now (out .entry)) r (now (store .exit)) (now (out .exit)) (recordCall (now (bytes .entry)) (length (now (out .entry))) code (now (w .entry))) ⌝ }
+{
+    if !records::is_record(code, w.len()) {
+        return CallReply {
+            known: false,
+            number: 0,
+            value: 0,
+            context: c,
+        };
+    }
+    perform(c, &mut store[..], code, w, bytes, &mut out[..])
+}
+
+// After a record: where the next one starts, and how many there can be still.
+struct StepReply {
+    place: usize,
+    left: usize,
+    context: Context,
+}
+
+// After a list: how many words were read, and the context. The list was read whole where that is its length.
+pub struct RunReply {
+    pub number: u32,
+    pub read: usize,
+    pub context: Context,
+}
+
+// The words of the record that starts at a place; 0 where it is not all there.
+fn record_length(words: &[u32], place: usize) -> usize
+    ensures { λ r. ⌜ r ≡ recordLength (drop place (now (words .entry))) ⌝ }
+{
+    let rest = words::words_from(words, place);
+    let n = words::word_at(rest, 1) as usize;
+    if 2 + n <= rest.len() { 2 + n } else { 0 }
+}
+
+// Makes the call of the record that starts at a place.
+fn next_call(
+    c: Context,
+    store: &mut [u8],
+    words: &[u32],
+    place: usize,
+    left: usize,
+    bytes: &[u8],
+    out: &mut [f32],
+) -> StepReply
+    requires { ⌜ 0 < left ⌝ }
+    requires { ⌜ place ≤ length (now words) ⌝ }
+    ensures { λ r. ⌜ Steps (recordLength (drop place (now (words .entry)))) place left c (now (store .entry)) (now (out .entry)) r (now (store .exit)) (now (out .exit)) (firstCall (now (bytes .entry)) (length (now (out .entry))) (drop place (now (words .entry)))) ⌝ }
+{
+    let size = record_length(words, place);
+    if size == 0 {
+        return StepReply {
+            place,
+            left: 0,
+            context: c,
+        };
+    }
+    let start = place + 2;
+    let end = place + size;
+    let code = words::word_at(words, place);
+    let r = make_call(
+        c,
+        &mut store[..],
+        code,
+        &words[start..end],
+        bytes,
+        &mut out[..],
+    );
+    let context = r.context;
+    if r.known {
+        return StepReply {
+            place: end,
+            left: left - 1,
+            context,
+        };
+    }
+    StepReply {
+        place,
+        left: 0,
+        context,
+    }
+}
+
+// Makes the calls of a list, one after the other, on a fresh context.
+pub fn run(words: &[u32], bytes: &[u8], store: &mut [u8], out: &mut [f32]) -> RunReply
+    ensures { λ r. ⌜ Runs (now (words .entry)) (now (bytes .entry)) (now (store .entry)) (now (out .entry)) r (now (store .exit)) (now (out .exit)) ⌝ }
+{
+    let mut c = Context::new();
+    if store.len() != STORE_BYTES {
+        return RunReply {
+            number: INVALID,
+            read: 0,
+            context: c,
+        };
+    }
+    let mut place: usize = 0;
+    let mut left = words.len();
+    while left > 0 {
+        let r = next_call(c, &mut store[..], words, place, left, bytes, &mut out[..]);
+        c = r.context;
+        place = r.place;
+        left = r.left;
+    }
+    RunReply {
+        number: 0,
+        read: place,
+        context: c,
+    }
+}

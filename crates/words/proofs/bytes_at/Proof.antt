@@ -1,0 +1,21 @@
+-- `words::bytes_at` meets its contract: place and number are held within the bytes.
+use Rattle.words.proofs.Words.{part-is}
+use borrow.Author.Needs.{needs}
+use Rattle.words.proofs.bytes_at.Statement.{statement}
+use Rattle.words.proofs.bytes_at.Tie as tie
+
+returns : tie.Need-returns
+returns c = part-is (c .before .before .before .before .args .bytes .now) (c .before .before .before .before .args .place) (c .before .before .before .before .args .n) _ _ (c .before .before .smaller .ensures) (c .before .smaller2 .ensures)
+
+pub bytes-at-spec : {M : Type 1} → statement M
+bytes-at-spec =
+    tie.close
+    (tie.spec
+    (λ c κs. search needs)
+    (λ c. search needs)
+    (λ c κs. search needs)
+    (λ c. search needs)
+    (λ c. search needs)
+    (λ c. search needs)
+    (λ c. search needs)
+    returns)
