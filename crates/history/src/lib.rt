@@ -1,1 +1,1 @@
-// Whole call lists: what a list of calls leaves, by its logs alone. The theorem is in proofs/Demand3.antt.
+// Whole call lists: what a draw gives after a list of calls, by the logs of the list alone. The statement is specs/Demand3.antt, the proof proofs/Demand3.antt.
