@@ -1,0 +1,1 @@
+// Worked examples of single rules, as theorems: specs/Rules.antt. No code.
