@@ -7,7 +7,7 @@ use native.Mathlib.Omega.{arith}
 use borrow.Author.Tests.{leb-true, leb-false, eq-eqb, ne-eqb}
 use lib.Dec.{eqb, leb}
 use lib.ListN.{length, take, drop, length-drop, drop-of-length-le}
-use lib.Seq.{take-all, take-length, drop-length}
+use lib.Seq.{take-all, take-length, drop-length, length-take-le}
 
 module _ {A : Type 0} (l : List A) where
   pub from-start : (n start : ℕ) → start ≡ min n (length l) → drop start l ≡ drop n l
@@ -33,3 +33,7 @@ part-is l place n start k es ek =
 -- all from a place on
 pub rest-is : {A : Type 0} (l : List A) (n start : ℕ) → start ≡ min n (length l) → take (length l - start) (drop start l) ≡ drop n l
 rest-is l n start e = take-all (length l - start) (drop start l) (omega (arith, length-drop start l)) ∙ from-start l n start e
+
+-- a number held within a list
+pub held-count : {A : Type 0} (l : List A) (n k : ℕ) → k ≡ min n (length l) → k ≡ length (take k l)
+held-count l n k e = sym (length-take-le k l (omega arith))

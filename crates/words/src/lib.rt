@@ -1,7 +1,7 @@
 // Reading arguments from words and bytes.
 ghost use mathlib.Core.Path.{_≡_};
 ghost use Prim.Native.Nat.{_+_, min};
-ghost use lib.ListN.{drop};
+ghost use lib.ListN.{take, drop};
 ghost use Rattle.words.specs.Words.{wordAt, longAt, floatAt, fourFloats, matrixFloats, bytesAt};
 
 pub fn word_at(w: &[u32], i: usize) -> u32
@@ -87,4 +87,12 @@ pub fn words_from<'a>(w: &'a [u32], n: usize) -> &'a [u32]
 {
     let start = smaller(n, w.len());
     &w[start..]
+}
+
+// The first n words, or as many as there are.
+pub fn first_words<'a>(w: &'a [u32], n: usize) -> &'a [u32]
+    ensures { λ r. ⌜ now r ≡ take n (now (w .entry)) ⌝ }
+{
+    let end = smaller(n, w.len());
+    &w[..end]
 }

@@ -1,0 +1,52 @@
+-- `reader::read_record` meets its contract.
+use Rattle.reader.proofs.Going.{stopped, all-kept}
+use borrow.Author.Needs.{needs}
+use Rattle.reader.proofs.read_record.Statement.{statement}
+use Rattle.reader.proofs.read_record.Tie as tie
+
+returns : tie.Need-returns
+returns c = stopped _ (c .none .ensures)
+
+returns-2 : tie.Need-returns-2
+returns-2 c = stopped _ (c .stop .ensures)
+
+returns-3 : tie.Need-returns-3
+returns-3 c = stopped _ (c .stop2 .ensures)
+
+returns-4 : tie.Need-returns-4
+returns-4 c = stopped _ (c .stop3 .ensures)
+
+returns-5 : tie.Need-returns-5
+returns-5 c = λ g. all-kept (c .before .before .before .before .before .before .before .before .before .before .before .before .before .before .before .before .word-of .result) _ (c .before .first-words .ensures) (c .checked .ensures g)
+
+pub read-record-spec : {M : Type 1} → statement M
+read-record-spec =
+    tie.close
+    (tie.spec
+    (λ c. search needs)
+    (λ c κs. search needs)
+    (λ c κs. search needs)
+    returns
+    (λ c. search needs)
+    (λ c κs. search needs)
+    returns-2
+    (λ c κs. search needs)
+    (λ c. search needs)
+    (λ c. search needs)
+    (λ c κs. search needs)
+    returns-3
+    (λ c. search needs)
+    (λ c κs. search needs)
+    (λ c. search needs)
+    (λ c κs. search needs)
+    (λ c. search needs)
+    returns-4
+    (λ c. search needs)
+    (λ c κs. search needs)
+    (λ c κs. search needs)
+    (λ c κs. search needs)
+    (λ c κs. search needs)
+    (λ c κs. search needs)
+    (λ c. search needs)
+    (λ c. search needs)
+    returns-5)

@@ -1,0 +1,4 @@
+pub mod Trace
+pub mod Fill
+pub mod Calls
+pub mod Decoded

@@ -1,0 +1,80 @@
+//! Planted faults: each spoils one rule of the model.
+
+macro_rules! faults {
+    ($($name:ident: $what:expr,)*) => {
+        #[derive(Clone, Copy, Debug, PartialEq)]
+        pub enum Fault {
+            $($name,)*
+        }
+        /// Every fault and the rule that it spoils.
+        pub const ALL: &[(Fault, &str)] = &[$((Fault::$name, $what),)*];
+    };
+}
+
+faults! {
+    StripParity: "a strip's odd and even triangles are exchanged",
+    FanHub: "a fan's first corner moves along",
+    FogSign: "fog depth keeps its sign",
+    StrideZero: "stride 0 means 0 bytes",
+    Normalise128: "signed bytes are divided by 128",
+    NotHeld: "signed colours are not held at -1",
+    AllNormalised: "positions and pairs are normalised too",
+    FixedTruncates: "fixed loses its low bits",
+    AbsentIsZero: "an absent fourth component is 0",
+    FourOfFive: "at most four components' bytes are checked",
+    LengthZeroPasses: "no bytes can be read anywhere",
+    AddressWraps: "an address past 2^32-1 wraps",
+    ModeFirst: "a draw's mode is asked first",
+    EmptyAsksMode: "an empty guest-indexed list goes on to the other questions",
+    ElementIgnored: "indices never come from the element buffer",
+    LinesDone: "points and lines answer 0",
+    PointerZero: "a vertex array at pointer 0 is tried",
+    UnusedNotFetched: "indices in no triangle are not fetched",
+    RangeEndIncluded: "a range's end is drawn",
+    RangeToTheEnd: "a range ends at 2^32",
+    ExactRefused: "an output of exactly the size needed is refused",
+    OutputTouched: "the output after the triangles is changed",
+    CurrentTransformed: "the current pair is transformed",
+    TextureMatrixSkipped: "an array's pair is not transformed",
+    PairLastZero: "(s, t, 0, 0) is transformed",
+    FailedPairCurrent: "a failed pair is the current one",
+    FailedPairPlain: "a failed pair is not transformed",
+    FailedColorWhite: "a failed colour is white",
+    MaskTurned: "the stage mask counts from the other end",
+    ProductTurned: "modelview times projection",
+    MultiplyStart: "multiply starts with its first product",
+    TransformStart: "transform starts at +0.0",
+    TransformInPairs: "transform adds in pairs",
+    MultOnTheLeft: "calls multiply on the left",
+    FrustumSign: "frustum's entry 10 is not negated",
+    FrustumNan: "frustum refuses NaN",
+    OrthoNear: "ortho refuses n <= 0",
+    RotateSign: "rotate turns the other way",
+    ZeroAxisSkipped: "a zero axis multiplies by nothing",
+    SixteenPushes: "16 pushes pass",
+    PopOrder: "pop takes the oldest",
+    LentUnchecked: "a lent stack is not asked for soundness",
+    UnsoundAccepted: "next 0 counts as sound",
+    SlotKeepsLast: "the slot keeps the last code",
+    SlotTakesSmall: "numbers below 0x0500 enter the slot",
+    SlotNotEmptied: "take_error leaves the code",
+    NextNotLifted: "bind does not lift next",
+    BadTargetMakesNothing: "bind at a bad target makes no name",
+    SeventeenNames: "bind makes a 17th name",
+    NamesToTheEnd: "gen gives the name 2^32-1",
+    DeleteClearsArray: "delete clears an array's buffer",
+    DeleteKeepsBinding: "delete keeps the array binding",
+    Accepts4097: "a buffer of 4,097 bytes passes",
+    StaleBytes: "buffer_data does not zero",
+    SubDataEnum: "sub-data at a bad target gives 0x0500",
+    SubDataShort: "sub-data up to the last byte is refused",
+    PointerDisables: "a pointer call disables its array",
+    PointerByActive: "texture coordinate calls use the active unit",
+    UnitBelowRefused: "a unit code below 0x84C0 is refused",
+    AlphaNan: "an alpha reference of NaN becomes 0",
+    BlendHalf: "a refused blend_func keeps its source",
+    EightLights: "caps from 0x4008 are refused",
+    EnvNameRefused: "tex_env refuses another pname",
+    CombineKept: "COMBINE is kept",
+    FogRounds: "a fog mode counts by the nearest whole number",
+}

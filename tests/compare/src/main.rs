@@ -1,0 +1,84 @@
+//! Differential runs of the vertex front end: see README.md.
+
+mod answer;
+mod commands;
+mod coverage;
+mod damage;
+mod differ;
+mod faults;
+mod generate;
+mod model;
+mod oracle;
+mod random;
+mod replay;
+mod sweep;
+#[cfg(test)]
+mod tests;
+mod trace;
+
+use std::io::{Read, Write};
+use std::process::ExitCode;
+
+const USAGE: &str = "compare generate SEED COUNT [DIR]
+compare list SEED NUMBER > TRACE
+compare sweeps > TRACE
+compare oracle < TRACE
+compare model [--fault FAULT] < TRACE
+compare show < TRACE
+compare compare SEED COUNT --replay PATH
+compare self SEED COUNT
+compare faults [SEED COUNT]
+compare coverage SEED COUNT
+compare record SEED COUNT DIR";
+
+fn input() -> Vec<u8> {
+    let mut bytes = Vec::new();
+    let mut stdin = std::io::stdin().lock();
+    stdin.read_to_end(&mut bytes).expect("standard input can be read");
+    bytes
+}
+
+fn print(text: &[u8]) -> bool {
+    std::io::stdout().lock().write_all(text).is_ok()
+}
+
+fn run(arguments: &[&str]) -> Option<bool> {
+    let number = |text: &str| text.parse::<u64>().ok();
+    Some(match *arguments {
+        ["generate", seed, count] => print(&commands::one_trace(number(seed)?, number(count)?)),
+        ["generate", seed, count, dir] => commands::write_lists(number(seed)?, number(count)?, dir),
+        ["list", seed, n] => print(&generate::list(number(seed)?, number(n)?).bytes()),
+        ["sweeps"] => print(&commands::all_sweeps()),
+        ["oracle"] => print(&oracle::answers(&input())),
+        ["model"] => print(&model::answers(&input(), None)),
+        ["model", "--fault", fault] => {
+            let wanted = |(f, _): &&(faults::Fault, &str)| format!("{f:?}") == fault;
+            let (fault, _) = faults::ALL.iter().find(wanted)?;
+            print(&model::answers(&input(), Some(*fault)))
+        }
+        ["show"] => print(&commands::shown(&input())),
+        ["compare", seed, count, "--replay", path] => {
+            replay::compare(number(seed)?, number(count)?, path)
+        }
+        ["self"] => commands::compare_self(1, 1000),
+        ["self", seed, count] => commands::compare_self(number(seed)?, number(count)?),
+        ["faults"] => commands::faults(1, 2000),
+        ["faults", seed, count] => commands::faults(number(seed)?, number(count)?),
+        ["coverage", seed, count] => commands::coverage(number(seed)?, number(count)?),
+        ["record", seed, count, dir] => commands::record(number(seed)?, number(count)?, dir),
+        _ => return None,
+    })
+}
+
+fn main() -> ExitCode {
+    let arguments: Vec<String> = std::env::args().skip(1).collect();
+    let arguments: Vec<&str> = arguments.iter().map(String::as_str).collect();
+    match run(&arguments) {
+        Some(true) => ExitCode::SUCCESS,
+        Some(false) => ExitCode::FAILURE,
+        None => {
+            eprintln!("{USAGE}");
+            ExitCode::from(2)
+        }
+    }
+}
