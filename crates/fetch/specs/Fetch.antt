@@ -61,6 +61,12 @@ inGuest base guest address len =
 unfoldable pub partOf : (ℕ → Option (List ℕ)) → ℕ → List ℕ → ℕ → ℕ → ℕ → Part
 partOf contents base guest buffer address len = cond (eqb buffer 0) (inGuest base guest address len) (inBuffer (contents buffer) address len)
 
+-- whether there are bytes
+abbrev pub isFound : Part → Bool
+isFound (bytes bs) = true
+isFound noBuffer = false
+isFound unreadable = false
+
 -- a part's bytes, none where there are none
 abbrev pub bytesIn : Part → List ℕ
 bytesIn (bytes bs) = bs

@@ -10,7 +10,7 @@ ghost use lib.ListN.{length, take, drop};
 ghost use Rattle.number.specs.Numbers.{le, signedAt};
 ghost use Rattle.buffers.specs.Objects.{slotCount, slotBytes, contentsOf, lenAt};
 ghost use Rattle.fetch.specs.Decode.{componentBytes, unsignedComponent, signedComponent, componentOf, component, vectorOf, OneTwoFour};
-ghost use Rattle.fetch.specs.Fetch.{freshArray, addressOf, fetched, inBuffer, inGuest, partOf, positionNumber, stateOf, bytesIn, sourceOf, Located};
+ghost use Rattle.fetch.specs.Fetch.{freshArray, addressOf, fetched, inBuffer, inGuest, partOf, positionNumber, stateOf, isFound, bytesIn, sourceOf, Located};
 
 // Four components.
 pub struct Vec4 {
@@ -374,6 +374,30 @@ pub fn part<'a>(
         Place::At(at) => element(store, guest, buffer, at, len),
         Place::NoBuffer => &store[0..0],
         Place::Unreadable => &store[0..0],
+    }
+}
+
+// Whether a range of guest memory can be read.
+pub fn can_read(base: u32, guest: &[u8], address: u32, len: usize) -> bool
+    ensures { λ r. ⌜ r ≡ isFound (inGuest base (now (guest .entry)) address len) ⌝ }
+{
+    let place = find_in_guest(base, guest, address, len);
+    match place {
+        Place::At(_) => true,
+        Place::NoBuffer => false,
+        Place::Unreadable => false,
+    }
+}
+
+// The bytes of such a range, a part of the guest bytes; none where it cannot be read.
+pub fn read<'a>(base: u32, guest: &'a [u8], address: u32, len: usize) -> &'a [u8]
+    ensures { λ r. ⌜ now r ≡ bytesIn (inGuest base (now (guest .entry)) address len) ⌝ }
+{
+    let place = find_in_guest(base, guest, address, len);
+    match place {
+        Place::At(at) => element(guest, guest, 0, at, len),
+        Place::NoBuffer => &guest[0..0],
+        Place::Unreadable => &guest[0..0],
     }
 }
 

@@ -31,7 +31,7 @@ use Rattle.context.specs.declared.DrawReply.{DrawReply}
 use Rattle.context.specs.State.{ObjectState, freshState}
 use Rattle.context.specs.Calls.{BufferCall, gen, bind, delete, bufferData, bufferSubData, ObjectCall, buffer, array, Call, matrix, mode, object, attribute, pipeline, takeError, draw}
 use Rattle.context.specs.Rules.{modeAfter, sameMode, objectStep, drawing}
-use Rattle.context.specs.Contract.{drawCall, drawnOf}
+use Rattle.context.specs.Contract.{Did, Drew, drawCall, drawnOf}
 use Rattle.context.proofs.Context.new.Reads as new-promise
 use Rattle.gles.proofs.set_matrix_mode.Reads as set-matrix-mode-promise
 use Rattle.gles.proofs.load_identity.Reads as load-identity-promise
@@ -224,3 +224,8 @@ pub record Demand3 : Type 0 where
       → (r .number ≡ r′ .number) × (r .count ≡ r′ .count) × (take (51 * r .count) out1 ≡ take (51 * r′ .count) out1′)
   pub counts : {l : List Call} {c : Context} {s : List ℕ} {d : DrawCall} {out out1 : List Float} {r : DrawReply}
       → History l c s → DrawMade c s d out r out1 → Counts d r
+  -- a draw with a guest view (crate view) is such a draw too: its contract says these two facts, of the view's base and bytes. The toolchain reads no `Learnt` off a function that takes a view, so they are written out here
+  pub with-view : {c : Context} {s guest : List ℕ} {source : Source} {code stages base : ℕ} {out out1 : List Float} {r : DrawReply}
+      → Did (draw (drawCall source code stages base guest (length out))) c s (r .number) (r .context) s
+      → Drew (drawCall source code stages base guest (length out)) c s (drawnOf r) out out1
+      → DrawMade c s (drawCall source code stages base guest (length out)) out r out1
