@@ -1,0 +1,21 @@
+-- `lent_stack::push` meets its contract, since `stack::MatrixStack::push` does (`Lent.antt`).
+use contract.Running.{givenOf, tables, tablesOf}
+use denote.Triple.Spec.{tripleOf}
+use denote.Triple.Table.{entered, cited}
+use Rattle.stack.specs.Stack.{stackAnswer, MatrixCall}
+use Rattle.stack.proofs.MatrixStack.push.Symbol as callee-def
+use Rattle.stack.proofs.MatrixStack.push.Symbol.{name as #callee}
+use Rattle.stack.proofs.MatrixStack.push.Met as callee-thm
+use Rattle.lent_stack.proofs.Lent.{Callee, lent-meets}
+use Rattle.lent_stack.proofs.push.Key.{name as #this}
+use Rattle.lent_stack.proofs.push as this
+use Rattle.lent_stack.proofs.push.Statement as stated
+use Rattle.lent_stack.proofs.push.Code as code
+
+pub push-spec : {M : Type 1} → stated.statement M
+unfolding code.routine tablesOf
+push-spec 𝓤 H 𝓜 𝓖 𝓡 =
+    entered 𝓤 H (tripleOf 𝓤 H (𝓖 .A) this.signature (this.spec 𝓤 H (𝓖 .A) (𝓜 .mem) (𝓡 .run)))
+    (tables 𝓤 H 𝓜 𝓡 code.env .C) (tables 𝓤 H 𝓜 𝓡 code.env .Λ) #this code.function (code.unfolded 𝓤 H 𝓜 𝓡)
+    (lent-meets 𝓤 H (𝓖 .A) (givenOf 𝓤 H 𝓜 𝓖) (stackAnswer MatrixCall.push) #callee (tablesOf 𝓤 H 𝓜 (tables 𝓤 H 𝓜 𝓡 code.env))
+    (cited 𝓤 H (Callee 𝓤 H (𝓖 .A) (stackAnswer MatrixCall.push)) 𝓜 𝓡 code.env #callee callee-def.routine code.calls-stack·MatrixStack·push (callee-thm.met 𝓤 H 𝓜 𝓖 𝓡)))
