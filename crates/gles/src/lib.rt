@@ -83,14 +83,14 @@ pub fn push_matrix(c: Context) -> Reply
     ensures { λ r. ⌜ Does (Call.matrix MatrixCall.push) c (r .number) (r .context) ⌝ }
 {
     let stack = c.stack_in_force();
-    c.answer_stack(stack.push())
+    c.answer_stack(lent_stack::pushed(stack))
 }
 
 pub fn pop_matrix(c: Context) -> Reply
     ensures { λ r. ⌜ Does (Call.matrix MatrixCall.pop) c (r .number) (r .context) ⌝ }
 {
     let stack = c.stack_in_force();
-    c.answer_stack(stack.pop())
+    c.answer_stack(lent_stack::popped(stack))
 }
 
 pub fn translate(c: Context, x: f32, y: f32, z: f32) -> Reply

@@ -1,11 +1,11 @@
--- `gles::push_matrix` meets its contract, from the call on the stack of the mode in force.
+-- `gles::push_matrix` meets its contract, from the call on the stack of the mode in force, which is lent to `push`.
 use Rattle.context.proofs.Entries.{matrix-does}
 use borrow.Author.Needs.{needs}
 use Rattle.gles.proofs.push_matrix.Statement.{statement}
 use Rattle.gles.proofs.push_matrix.Tie as tie
 
 returns : tie.Need-returns
-returns c = matrix-does _ _ _ _ _ (c .before .before .stack-in-force .ensures) (c .before .push .ensures) (c .answer-stack .ensures)
+returns c = matrix-does _ _ _ _ _ (c .before .before .stack-in-force .ensures) (c .before .pushed .ensures) (c .answer-stack .ensures)
 
 pub push-matrix-spec : {M : Type 1} → statement M
 push-matrix-spec =
