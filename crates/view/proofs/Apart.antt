@@ -118,9 +118,12 @@ module _ {n : ℕ} (α : Lfts n → NamedLft) (s₁ s₂ : Slot n) (ss : List (S
   abbrev pub together : (κs : Lfts n) → Denots (typesAt allParted κs) → Denots (typesAt allViewed κs)
   together κs b = (b .0, (b .1 .0, (record { base = b .1 .1 .0; bytes = b .1 .1 .1 .0 }, b .1 .1 .1 .1)))
 
-  -- the promise with the view, of the base and the bytes
-  abbrev pub ofParts : {M : Type 1} (𝓤 : URA M) (result : Slot n) → Promise 𝓤 allViewed result allViewedKept → Promise 𝓤 allParted result allPartedKept
-  ofParts 𝓤 result P κs b r e = P κs (together κs b) r (e .0, (e .1 .0, (record { base = e .1 .1 .0; bytes = e .1 .1 .1 .0 }, e .1 .1 .1 .1)))
+  -- the same of what is seen at exit
+  abbrev pub apartSeen : (κs : Lfts n) → Outs κs allViewed allViewedKept → Outs κs allParted allPartedKept
+  apartSeen κs e = (e .0, (e .1 .0, (e .1 .1 .0 .base, (e .1 .1 .0 .bytes, e .1 .1 .1))))
+
+  abbrev pub togetherSeen : (κs : Lfts n) → Outs κs allParted allPartedKept → Outs κs allViewed allViewedKept
+  togetherSeen κs e = (e .0, (e .1 .0, (record { base = e .1 .1 .0; bytes = e .1 .1 .1 .0 }, e .1 .1 .1 .1)))
 
   module _ {M : Type 1} (𝓤 : URA M) (H : Heap 𝓤) (A : Atoms 𝓤) (W : Given 𝓤 H A) (κs : Lfts n) where
     module _ (x₁ : s₁ .row κs .Denot) (x₂ : s₂ .row κs .Denot) (d : GuestView) (xs : Denots (typesAt ss κs)) where
@@ -139,28 +142,33 @@ module _ {n : ℕ} (α : Lfts n → NamedLft) (s₁ s₂ : Slot n) (ss : List (S
         viewed-own = qed W (‵ ownParted ∷ []) ∵ fsplit ! $ move ! (1 ∷ []) $ fsplit ! $ move ! (1 ∷ []) $ use1 W (‵ (viewedOwn α ss ks 𝓤 H A W κs d xs uss)) (view-own α ss ks 𝓤 H A W κs d xs uss) $
             move ! (1 ∷ 0 ∷ []) $ fjoin ! $ move ! (1 ∷ 0 ∷ []) $ done !
 
-      module _ (w₁ : Last (s₁ .row κs .exit yes) x₁) (w₂ : Last (s₂ .row κs .exit yes) x₂) (ws : Fins κs ss ks xs) (P : SProp 𝓤) where
+      module _ (w₁ : Last (s₁ .row κs .exit yes) x₁) (w₂ : Last (s₂ .row κs .exit yes) x₂) (ws : Fins κs ss ks xs) (P Q : SProp 𝓤) (h : ent 𝓤 P Q) where
         abbrev lastsViewed : Fml
         lastsViewed = lastsOf κs allViewed allViewedKept (x₁, (x₂, (d, xs))) (w₁, (w₂, (tt, ws)))
 
         abbrev lastsParted : Fml
         lastsParted = lastsOf κs allParted allPartedKept (x₁, (x₂, (d .base, (d .bytes, xs)))) (w₁, (w₂, (tt, (tt, ws))))
 
-        viewed-lasts : ent 𝓤 (sep 𝓤 (sem 𝓤 H A lastsParted) P) (sep 𝓤 (sem 𝓤 H A lastsViewed) P)
+        viewed-lasts : ent 𝓤 (sep 𝓤 (sem 𝓤 H A lastsParted) P) (sep 𝓤 (sem 𝓤 H A lastsViewed) Q)
         viewed-lasts = qed W (‵ lastsParted ∷ raw P ∷ []) ∵ fsplit ! $ move ! (1 ∷ []) $ fsplit ! $ move ! (1 ∷ []) $ use1 W (‵ (viewedLasts α ss ks 𝓤 H A W κs d xs ws)) (view-lasts α ss ks 𝓤 H A W κs d xs ws) $
-            move ! (1 ∷ 0 ∷ []) $ fjoin ! $ move ! (1 ∷ 0 ∷ []) $ fjoin ! $ done !
+            move ! (1 ∷ 0 ∷ []) $ fjoin ! $ move ! (1 ∷ 0 ∷ []) $ fjoin ! $ move ! (1 ∷ 0 ∷ []) $ use1 W (raw Q) h $ move ! (1 ∷ 0 ∷ []) $ done !
 
-        parted-lasts : ent 𝓤 (sep 𝓤 (sem 𝓤 H A lastsViewed) P) (sep 𝓤 (sem 𝓤 H A lastsParted) P)
+        parted-lasts : ent 𝓤 (sep 𝓤 (sem 𝓤 H A lastsViewed) P) (sep 𝓤 (sem 𝓤 H A lastsParted) Q)
         parted-lasts = qed W (‵ lastsViewed ∷ raw P ∷ []) ∵ fsplit ! $ move ! (1 ∷ []) $ fsplit ! $ move ! (1 ∷ []) $ use1 W (‵ (partedLasts α ss ks 𝓤 H A W κs d xs ws)) (part-lasts α ss ks 𝓤 H A W κs d xs ws) $
-            move ! (1 ∷ 0 ∷ []) $ fjoin ! $ move ! (1 ∷ 0 ∷ []) $ fjoin ! $ done !
+            move ! (1 ∷ 0 ∷ []) $ fjoin ! $ move ! (1 ∷ 0 ∷ []) $ fjoin ! $ move ! (1 ∷ 0 ∷ []) $ use1 W (raw Q) h $ move ! (1 ∷ 0 ∷ []) $ done !
 
-    module _ (result : Slot n) (P : Promise 𝓤 allViewed result allViewedKept) (r : result .row κs .Denot) where
-      pub viewed-ensures : (a : Denots (typesAt allViewed κs)) → ent 𝓤 (ensures 𝓤 H A allParted result allPartedKept (ofParts 𝓤 result P) κs (apart κs a) r) (ensures 𝓤 H A allViewed result allViewedKept P κs a r)
-      viewed-ensures a = exE 𝓤 _ (λ ws. via 𝓤 _
-          (viewed-lasts (a .0) (a .1 .0) (a .1 .1 .0) (a .1 .1 .1) (ws .0) (ws .1 .0) (ws .1 .1 .1 .1) (P κs a r (outs κs allViewed allViewedKept a (ws .0, (ws .1 .0, (tt, ws .1 .1 .1 .1))))))
+    -- where what the one promises is what the other promises of the view's base and bytes
+    module _ (result : Slot n) (P : Promise 𝓤 allViewed result allViewedKept) (P′ : Promise 𝓤 allParted result allPartedKept) (r : result .row κs .Denot) where
+      pub viewed-ensures : (a : Denots (typesAt allViewed κs)) → ((e : Outs κs allViewed allViewedKept) → ent 𝓤 (P′ κs (apart κs a) r (apartSeen κs e)) (P κs a r e))
+          → ent 𝓤 (ensures 𝓤 H A allParted result allPartedKept P′ κs (apart κs a) r) (ensures 𝓤 H A allViewed result allViewedKept P κs a r)
+      viewed-ensures a same = exE 𝓤 _ (λ ws.
+          let e : Outs κs allViewed allViewedKept = outs κs allViewed allViewedKept a (ws .0, (ws .1 .0, (tt, ws .1 .1 .1 .1))) in
+          via 𝓤 _ (viewed-lasts (a .0) (a .1 .0) (a .1 .1 .0) (a .1 .1 .1) (ws .0) (ws .1 .0) (ws .1 .1 .1 .1) (P′ κs (apart κs a) r (apartSeen κs e)) (P κs a r e) (same e))
           (exI 𝓤 (λ (zs : Fins κs allViewed allViewedKept a). sep 𝓤 (sem 𝓤 H A (lastsOf κs allViewed allViewedKept a zs)) (P κs a r (outs κs allViewed allViewedKept a zs))) (ws .0, (ws .1 .0, (tt, ws .1 .1 .1 .1)))))
 
-      pub parted-ensures : (b : Denots (typesAt allParted κs)) → ent 𝓤 (ensures 𝓤 H A allViewed result allViewedKept P κs (together κs b) r) (ensures 𝓤 H A allParted result allPartedKept (ofParts 𝓤 result P) κs b r)
-      parted-ensures b = exE 𝓤 _ (λ ws. via 𝓤 _
-          (parted-lasts (b .0) (b .1 .0) (together κs b .1 .1 .0) (b .1 .1 .1 .1) (ws .0) (ws .1 .0) (ws .1 .1 .1) (ofParts 𝓤 result P κs b r (outs κs allParted allPartedKept b (ws .0, (ws .1 .0, (tt, (tt, ws .1 .1 .1)))))))
-          (exI 𝓤 (λ (zs : Fins κs allParted allPartedKept b). sep 𝓤 (sem 𝓤 H A (lastsOf κs allParted allPartedKept b zs)) (ofParts 𝓤 result P κs b r (outs κs allParted allPartedKept b zs))) (ws .0, (ws .1 .0, (tt, (tt, ws .1 .1 .1))))))
+      pub parted-ensures : (b : Denots (typesAt allParted κs)) → ((e : Outs κs allParted allPartedKept) → ent 𝓤 (P κs (together κs b) r (togetherSeen κs e)) (P′ κs b r e))
+          → ent 𝓤 (ensures 𝓤 H A allViewed result allViewedKept P κs (together κs b) r) (ensures 𝓤 H A allParted result allPartedKept P′ κs b r)
+      parted-ensures b same = exE 𝓤 _ (λ ws.
+          let e : Outs κs allParted allPartedKept = outs κs allParted allPartedKept b (ws .0, (ws .1 .0, (tt, (tt, ws .1 .1 .1)))) in
+          via 𝓤 _ (parted-lasts (b .0) (b .1 .0) (together κs b .1 .1 .0) (b .1 .1 .1 .1) (ws .0) (ws .1 .0) (ws .1 .1 .1) (P κs (together κs b) r (togetherSeen κs e)) (P′ κs b r e) (same e))
+          (exI 𝓤 (λ (zs : Fins κs allParted allPartedKept b). sep 𝓤 (sem 𝓤 H A (lastsOf κs allParted allPartedKept b zs)) (P′ κs b r (outs κs allParted allPartedKept b zs))) (ws .0, (ws .1 .0, (tt, (tt, ws .1 .1 .1))))))

@@ -58,7 +58,17 @@ pub fn draw_arrays<'a>(
     ensures { λ r. ⌜ Did (Call.draw (drawCall (Source.range first count) mode stages (view .entry .base) (now (view .entry .bytes)) (length (now (out .entry))))) c (now (store .entry)) (r .number) (r .context) (now (store .entry)) ⌝ }
     ensures { λ r. ⌜ Drew (drawCall (Source.range first count) mode stages (view .entry .base) (now (view .entry .bytes)) (length (now (out .entry)))) c (now (store .entry)) (drawnOf r) (now (out .entry)) (now (out .exit)) ⌝ }
 {
-    gles::draw_arrays(c, store, view.base, view.bytes, mode, first, count, stages, out)
+    gles::draw_arrays(
+        c,
+        store,
+        view.base,
+        view.bytes,
+        mode,
+        first,
+        count,
+        stages,
+        out,
+    )
 }
 
 // A draw of indices in the element buffer, or in guest memory where none is bound.
@@ -76,5 +86,16 @@ pub fn draw_elements_from_guest<'a>(
     ensures { λ r. ⌜ Did (Call.draw (drawCall (Source.elements count ty pointer) mode stages (view .entry .base) (now (view .entry .bytes)) (length (now (out .entry))))) c (now (store .entry)) (r .number) (r .context) (now (store .entry)) ⌝ }
     ensures { λ r. ⌜ Drew (drawCall (Source.elements count ty pointer) mode stages (view .entry .base) (now (view .entry .bytes)) (length (now (out .entry)))) c (now (store .entry)) (drawnOf r) (now (out .entry)) (now (out .exit)) ⌝ }
 {
-    gles::draw_elements_from_guest(c, store, view.base, view.bytes, mode, count, ty, pointer, stages, out)
+    gles::draw_elements_from_guest(
+        c,
+        store,
+        view.base,
+        view.bytes,
+        mode,
+        count,
+        ty,
+        pointer,
+        stages,
+        out,
+    )
 }

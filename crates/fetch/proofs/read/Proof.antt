@@ -1,12 +1,13 @@
 -- `fetch::read` meets its contract: each arm is the case of the place.
 use mathlib.Core.Path.{sym, ap, _∙_}
 use Rattle.fetch.specs.Fetch.{bytesIn}
+use native.Mathlib.Omega.{arith}
 use borrow.Author.Needs.{needs}
 use Rattle.fetch.proofs.read.Statement.{statement}
 use Rattle.fetch.proofs.read.Tie as tie
 
 element-requires : tie.Need-element-requires
-element-requires c κs = (rw (c .before .place .given .1) at (c .before .before .before .find-in-guest .ensures)) .0
+element-requires c κs = let h = (rw (c .before .place .given .1) at (c .before .before .before .find-in-guest .ensures)) .0 in omega arith
 
 returns : tie.Need-returns
 returns c = let p = (rw (c .before .before .place .given .1) at (c .before .before .before .before .find-in-guest .ensures)) in c .element .ensures ∙ sym (ap bytesIn (p .1))

@@ -1,0 +1,89 @@
+// The draws of crate view for callers that hold a base address and bytes: each makes the view and calls the draw that takes it.
+use context::Context;
+use context::DrawReply;
+use view::GuestView;
+ghost use lib.ListN.{length};
+ghost use Rattle.draw.specs.Scene.{Source};
+ghost use Rattle.context.specs.Calls.{Call};
+ghost use Rattle.context.specs.Contract.{Did, Drew, drawCall, drawnOf};
+
+// A draw of a borrowed list of indices.
+pub fn draw_elements<'a>(
+    c: Context,
+    store: &'a [u8],
+    base: u32,
+    guest: &'a [u8],
+    mode: u32,
+    indices: &[u32],
+    stages: u32,
+    out: &mut [f32],
+) -> DrawReply
+    ensures { λ r. ⌜ Did (Call.draw (drawCall (Source.list (now (indices .entry))) mode stages base (now (guest .entry)) (length (now (out .entry))))) c (now (store .entry)) (r .number) (r .context) (now (store .entry)) ⌝ }
+    ensures { λ r. ⌜ Drew (drawCall (Source.list (now (indices .entry))) mode stages base (now (guest .entry)) (length (now (out .entry)))) c (now (store .entry)) (drawnOf r) (now (out .entry)) (now (out .exit)) ⌝ }
+{
+    view::draw_elements(
+        c,
+        store,
+        GuestView { base, bytes: guest },
+        mode,
+        indices,
+        stages,
+        out,
+    )
+}
+
+// A draw of the indices from `first` on.
+pub fn draw_arrays<'a>(
+    c: Context,
+    store: &'a [u8],
+    base: u32,
+    guest: &'a [u8],
+    mode: u32,
+    first: u32,
+    count: u32,
+    stages: u32,
+    out: &mut [f32],
+) -> DrawReply
+    ensures { λ r. ⌜ Did (Call.draw (drawCall (Source.range first count) mode stages base (now (guest .entry)) (length (now (out .entry))))) c (now (store .entry)) (r .number) (r .context) (now (store .entry)) ⌝ }
+    ensures { λ r. ⌜ Drew (drawCall (Source.range first count) mode stages base (now (guest .entry)) (length (now (out .entry)))) c (now (store .entry)) (drawnOf r) (now (out .entry)) (now (out .exit)) ⌝ }
+{
+    view::draw_arrays(
+        c,
+        store,
+        GuestView { base, bytes: guest },
+        mode,
+        first,
+        count,
+        stages,
+        out,
+    )
+}
+
+// A draw of indices in the element buffer, or in guest memory where none is bound.
+pub fn draw_elements_from_guest<'a>(
+    c: Context,
+    store: &'a [u8],
+    base: u32,
+    guest: &'a [u8],
+    mode: u32,
+    count: u32,
+    ty: u32,
+    pointer: u32,
+    stages: u32,
+    out: &mut [f32],
+) -> DrawReply
+    ensures { λ r. ⌜ Did (Call.draw (drawCall (Source.elements count ty pointer) mode stages base (now (guest .entry)) (length (now (out .entry))))) c (now (store .entry)) (r .number) (r .context) (now (store .entry)) ⌝ }
+    ensures { λ r. ⌜ Drew (drawCall (Source.elements count ty pointer) mode stages base (now (guest .entry)) (length (now (out .entry)))) c (now (store .entry)) (drawnOf r) (now (out .entry)) (now (out .exit)) ⌝ }
+{
+    view::draw_elements_from_guest(
+        c,
+        store,
+        GuestView { base, bytes: guest },
+        mode,
+        count,
+        ty,
+        pointer,
+        stages,
+        out,
+    )
+}
