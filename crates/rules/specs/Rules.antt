@@ -12,7 +12,7 @@ use Rattle.buffers.specs.Bounded.{count}
 use Rattle.stack.specs.Stack.{frustum, ortho, update}
 use Rattle.pipeline.specs.Pipeline.{capability, freshPipeline, accepted, pipelineStep}
 use Rattle.fetch.specs.Decode.{componentBytes}
-use Rattle.fetch.specs.Fetch.{partOf, addressOf, fetched}
+use Rattle.fetch.specs.Fetch.{bytes, unreadable, inGuest, partOf, addressOf, fetched}
 use Rattle.fetch.specs.declared.ArrayPointer.{ArrayPointer}
 use Rattle.fetch.specs.declared.Fetched.{Fetched}
 use Rattle.context.specs.State.{State, freshState}
@@ -57,6 +57,11 @@ arrayOf ty = record { enabled = true; size = 1; ty = ty; stride = 0; pointer = 0
 pub failures : (fetched (λ n. some (0 ∷ [])) 0 [] (arrayOf 0x1404) 0 false ≡ Fetched.UnknownType) × (fetched (λ n. none) 0 [] (arrayOf 0x1400) 0 false ≡ Fetched.NoBuffer)
 unfolding componentBytes addressOf partOf fetched
 failures = (refl, refl)
+
+-- three guest bytes from address 100 on: all can be read, and none of them at their end; one byte past the end cannot, nor none past it, nor what begins below
+pub guest-reads : (inGuest 100 (7 ∷ 8 ∷ 9 ∷ []) 101 2 ≡ bytes (8 ∷ 9 ∷ [])) × (inGuest 100 (7 ∷ 8 ∷ 9 ∷ []) 103 0 ≡ bytes [])
+    × (inGuest 100 (7 ∷ 8 ∷ 9 ∷ []) 101 3 ≡ unreadable) × (inGuest 100 (7 ∷ 8 ∷ 9 ∷ []) 104 0 ≡ unreadable) × (inGuest 100 (7 ∷ 8 ∷ 9 ∷ []) 99 1 ≡ unreadable)
+guest-reads = (refl, refl, refl, refl, refl)
 
 -- scissor is accepted and changes nothing
 pub scissor : (numberOf (pipeline (capability 0x0C11 true)) freshState ≡ 0) × (pipelineStep (capability 0x0C11 true) freshPipeline .pipeline ≡ freshPipeline)
