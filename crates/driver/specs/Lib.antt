@@ -1,0 +1,4 @@
+pub mod Settings
+pub mod Stacks
+pub mod Permitted
+pub mod Draws
