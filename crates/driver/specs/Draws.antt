@@ -1,12 +1,16 @@
 -- The draws of a trace (TRACE.md: "Calls", opcodes 60 to 62): mode, mask of stages, output length; then a number of indices and the indices, or first and count, or count, type and pointer.
 use mathlib.Core.List.{List, [], _∷_}
-use Prim.Native.Nat.{ℕ}
+use Prim.Native.Nat.{ℕ, min}
 use lib.ListN.{drop}
 use Rattle.number.specs.Tables.{Row, _names_}
 use Rattle.words.specs.Words.{wordAt}
 use Rattle.records.specs.Encoding.{rowOr}
 use Rattle.draw.specs.Scene.{Source, list, range, elements, DrawCall}
 use Rattle.context.specs.Contract.{drawCall}
+
+-- the output length, held within the output that there is
+abbrev pub roomOf : List ℕ → ℕ → ℕ
+roomOf w len = min (wordAt w 2) len
 
 abbrev pub listOf : List ℕ → Source
 listOf w = list (drop 4 w)

@@ -70,7 +70,7 @@ stateRows live enabled element v w =
 unfoldable pub suits : Bool → Bool → ℕ → Borrowed → ℕ → List ℕ → Bool
 suits live enabled element v code w = rowOr (stateRows live enabled element v w) code true
 
--- w: a record's first words
+-- w: a record's words
 abbrev pub isPermitted : Context → Borrowed → ℕ → List ℕ → Bool
 isPermitted c v code w =
     isMade (v .store) code && suits (anyLive (c .buffers .slots)) (c .arrays .vertex .enabled) (c .buffers .«element_buffer») v code w

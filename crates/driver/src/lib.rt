@@ -9,16 +9,16 @@ use stack::Matrix;
 use stack::MatrixStack;
 use stack::SAVED_LIMIT;
 use trace::MAX_ENTRIES;
+use trace::STORE_AREA;
 ghost use mathlib.Core.Path.{_≡_};
 ghost use lib.ListN.{length};
 ghost use Rattle.draw.specs.Index.{rangeCount, indexWidth};
-ghost use Rattle.context.specs.Contract.{drawCall};
 ghost use Rattle.history.specs.Demand3.{DrawMade};
 ghost use Rattle.words.specs.Words.{wordAt};
 ghost use Rattle.driver.specs.Settings.{freshBorrowed, borrowedAfter, storeAfter, guestAfter};
 ghost use Rattle.driver.specs.Stacks.{matrixAt, stackOf};
 ghost use Rattle.driver.specs.Permitted.{anyLive, isCall, borrowsStore, isMade, canBeRead, isShort, isFew, suits, isPermitted};
-ghost use Rattle.driver.specs.Draws.{listOf, rangeOf, elementsOf, drawFrom, drawOf};
+ghost use Rattle.driver.specs.Draws.{roomOf, listOf, rangeOf, elementsOf, drawFrom, drawOf};
 
 // ---- settings
 
@@ -41,10 +41,12 @@ impl Borrowed {
         }
     }
 
-    // What the calls borrow after a record whose first words are a and b.
-    pub fn after(self, code: u32, a: u32, b: u32) -> Borrowed
-        ensures { λ r. ⌜ r ≡ borrowedAfter code a b self ⌝ }
+    // What the calls borrow after a record.
+    pub fn after(self, code: u32, w: &[u32]) -> Borrowed
+        ensures { λ r. ⌜ r ≡ borrowedAfter code (wordAt (now (w .entry)) 0) (wordAt (now (w .entry)) 1) self ⌝ }
     {
+        let a = words::word_at(w, 0);
+        let b = words::word_at(w, 1);
         let mut out = self;
         match code {
             0x05 => {
@@ -76,7 +78,7 @@ pub fn fill_areas(code: u32, w: &[u32], bytes: &[u8], store: &mut [u8], guest: &
     let b = words::word_at(w, 1);
     match code {
         0x03 => {
-            trace::fill(store, 65600, a);
+            trace::fill(store, STORE_AREA as u32, a);
         }
         0x04 => {
             text::put(store, a as usize, words::bytes_at(bytes, 8, b as usize));
@@ -233,42 +235,42 @@ fn is_few(v: Borrowed, element: u32, count: u32, ty: u32, pointer: u32) -> bool
     true
 }
 
-// Whether a record that begins with some words suits a state.
-fn suits_state(
-    live: bool,
-    enabled: bool,
-    element: u32,
-    v: Borrowed,
-    code: u32,
-    head: [u32; 6],
-) -> bool
-    ensures { λ r. ⌜ r ≡ suits live enabled element v code head ⌝ }
+// Whether a record suits a state.
+fn suits_state(live: bool, enabled: bool, element: u32, v: Borrowed, code: u32, w: &[u32]) -> bool
+    ensures { λ r. ⌜ r ≡ suits live enabled element v code (now (w .entry)) ⌝ }
 {
-    let a = head[3];
-    let b = head[4];
+    let a = words::word_at(w, 3);
+    let b = words::word_at(w, 4);
     match code {
         0x03 => !live,
         0x04 => !live,
         0x61 => is_short(enabled, a, b),
-        0x62 => is_few(v, element, a, b, head[5]),
+        0x62 => is_few(v, element, a, b, words::word_at(w, 5)),
         0x7e => live,
         _ => true,
     }
 }
 
-// Whether a record that begins with some words may come now.
-pub fn is_permitted(c: Context, v: Borrowed, code: u32, head: [u32; 6]) -> bool
-    ensures { λ r. ⌜ r ≡ isPermitted c v code head ⌝ }
+// Whether a record may come now.
+pub fn is_permitted(c: Context, v: Borrowed, code: u32, w: &[u32]) -> bool
+    ensures { λ r. ⌜ r ≡ isPermitted c v code (now (w .entry)) ⌝ }
 {
     if !is_made(v.store, code) {
         return false;
     }
     let live = any_live(c.buffers);
     let enabled = c.arrays.vertex.enabled;
-    suits_state(live, enabled, c.buffers.element_buffer, v, code, head)
+    suits_state(live, enabled, c.buffers.element_buffer, v, code, w)
 }
 
 // ---- draws
+
+// How many f32 of an output of some length a draw has.
+pub fn room_of(w: &[u32], len: usize) -> usize
+    ensures { λ r. ⌜ r ≡ roomOf (now (w .entry)) len ⌝ }
+{
+    words::smaller(words::word_at(w, 2) as usize, len)
+}
 
 fn draw_list<'a>(
     c: Context,
@@ -321,7 +323,7 @@ fn draw_stored<'a>(
     gles::draw_elements_from_guest(c, store, base, guest, mode, count, ty, pointer, stages, out)
 }
 
-// Makes the draw of a record, with the whole output.
+// Makes the draw of a record. The output is as long as its words say.
 pub fn draw<'a>(
     c: Context,
     code: u32,

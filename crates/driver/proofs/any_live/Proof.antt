@@ -4,11 +4,8 @@ use borrow.Author.Needs.{needs}
 use Rattle.driver.proofs.any_live.Statement.{statement}
 use Rattle.driver.proofs.any_live.Tie as tie
 
-next-live-requires : tie.Need-next-live-requires
-next-live-requires c κs = search needs
-
 returns : tie.Need-returns
 returns c = live-is _ _ (c .next-live .ensures)
 
 pub any-live-spec : {M : Type 1} → statement M
-any-live-spec = tie.close (tie.spec next-live-requires returns)
+any-live-spec = tie.close (tie.spec (λ c κs. search needs) returns)

@@ -4,9 +4,6 @@ use borrow.Author.Needs.{needs}
 use Rattle.driver.proofs.can_be_read.Statement.{statement}
 use Rattle.driver.proofs.can_be_read.Tie as tie
 
-index-width-requires : tie.Need-index-width-requires
-index-width-requires c κs = search needs
-
 returns : tie.Need-returns
 returns c = let a = c .before .before .args in no-width (a .v) (a .element) (a .count) (a .ty) (a .pointer) _ (c .before .index-width .ensures) (c .if1 .taken)
 
@@ -16,20 +13,8 @@ returns-2 c = let a = c .before .before .before .args in in-a-buffer (a .v) (a .
 returns-3 : tie.Need-returns-3
 returns-3 c = let a = c .before .before .before .before .before .args in below-the-base (a .v) (a .element) (a .count) (a .ty) (a .pointer) _ (c .before .before .before .before .index-width .ensures) (c .before .before .before .if1 .left) (c .before .before .if2 .left) (c .if3 .taken)
 
-cast-at : tie.Need-cast-at
-cast-at c = search needs
-
-add-result : tie.Need-add-result
-add-result c = search needs
-
 returns-4 : tie.Need-returns-4
 returns-4 c = let a = c .before .before .before .before .before .before .before .args in by-bytes (a .v) (a .element) (a .count) (a .ty) (a .pointer) _ (c .before .before .before .before .before .before .index-width .ensures) (c .before .before .before .before .before .if1 .left) (c .before .before .before .before .if2 .left) (c .before .before .if3 .left) (c .if4 .taken)
-
-mul-result : tie.Need-mul-result
-mul-result c = search needs
-
-add-result-2 : tie.Need-add-result-2
-add-result-2 c = search needs
 
 returns-5 : tie.Need-returns-5
 returns-5 c = let a = c .before .before .before .before .before .before .before .args in by-shorts (a .v) (a .element) (a .count) (a .ty) (a .pointer) _ (c .before .before .before .before .before .before .index-width .ensures) (c .before .before .before .before .before .if1 .left) (c .before .before .before .before .if2 .left) (c .before .before .if3 .left) (c .if4 .left)
@@ -38,13 +23,13 @@ pub can-be-read-spec : {M : Type 1} → statement M
 can-be-read-spec =
     tie.close
     (tie.spec
-    index-width-requires
+    (λ c κs. search needs)
     returns
     returns-2
     returns-3
-    cast-at
-    add-result
+    (λ c. search needs)
+    (λ c. search needs)
     returns-4
-    mul-result
-    add-result-2
+    (λ c. search needs)
+    (λ c. search needs)
     returns-5)

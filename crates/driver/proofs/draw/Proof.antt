@@ -8,31 +8,13 @@ use borrow.Author.Needs.{needs}
 use Rattle.driver.proofs.draw.Statement.{statement}
 use Rattle.driver.proofs.draw.Tie as tie
 
-draw-list-requires : tie.Need-draw-list-requires
-draw-list-requires c κs = search needs
-
-draw-range-requires : tie.Need-draw-range-requires
-draw-range-requires c κs = search needs
-
-draw-stored-requires : tie.Need-draw-stored-requires
-draw-stored-requires c κs = search needs
-
-same-length : tie.Need-same-length
-same-length c = search needs
-
 returns : tie.Need-returns
 unfolding sourceOf
 returns c = rw (c .before .before .before .before .match .keys1) (c .before .before .draw-list .ensures)
 
-same-length-2 : tie.Need-same-length-2
-same-length-2 c = search needs
-
 returns-2 : tie.Need-returns-2
 unfolding sourceOf
 returns-2 c = rw (c .before .before .before .before .match .keys2) (c .before .before .draw-range .ensures)
-
-same-length-3 : tie.Need-same-length-3
-same-length-3 c = search needs
 
 returns-3 : tie.Need-returns-3
 unfolding sourceOf
@@ -42,12 +24,12 @@ pub draw-spec : {M : Type 1} → statement M
 draw-spec =
     tie.close
     (tie.spec
-    draw-list-requires
-    draw-range-requires
-    draw-stored-requires
-    same-length
+    (λ c κs. search needs)
+    (λ c κs. search needs)
+    (λ c κs. search needs)
+    (λ c. search needs)
     returns
-    same-length-2
+    (λ c. search needs)
     returns-2
-    same-length-3
+    (λ c. search needs)
     returns-3)

@@ -8,21 +8,6 @@ use borrow.Author.Needs.{needs}
 use Rattle.driver.proofs.draw_list.Statement.{statement}
 use Rattle.driver.proofs.draw_list.Tie as tie
 
-word-at-requires : tie.Need-word-at-requires
-word-at-requires c κs = search needs
-
-word-at-requires-2 : tie.Need-word-at-requires-2
-word-at-requires-2 c κs = search needs
-
-words-from-requires : tie.Need-words-from-requires
-words-from-requires c κs = search needs
-
-draw-elements-requires : tie.Need-draw-elements-requires
-draw-elements-requires c κs = search needs
-
-same-length : tie.Need-same-length
-same-length c = search needs
-
 returns : tie.Need-returns
 returns c = made-as (ap list (c .before .before .before .before .words-from .ensures)) (c .before .before .before .before .before .before .word-at .ensures) (c .before .before .before .before .before .word-at2 .ensures) (by-draw-elements three (to _) (to _) (to _) (to _) refl (c .before .before .draw-elements .ensures))
 
@@ -30,9 +15,9 @@ pub draw-list-spec : {M : Type 1} → statement M
 draw-list-spec =
     tie.close
     (tie.spec
-    word-at-requires
-    word-at-requires-2
-    words-from-requires
-    draw-elements-requires
-    same-length
+    (λ c κs. search needs)
+    (λ c κs. search needs)
+    (λ c κs. search needs)
+    (λ c κs. search needs)
+    (λ c. search needs)
     returns)

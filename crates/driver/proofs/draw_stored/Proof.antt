@@ -8,27 +8,6 @@ use borrow.Author.Needs.{needs}
 use Rattle.driver.proofs.draw_stored.Statement.{statement}
 use Rattle.driver.proofs.draw_stored.Tie as tie
 
-word-at-requires : tie.Need-word-at-requires
-word-at-requires c κs = search needs
-
-word-at-requires-2 : tie.Need-word-at-requires-2
-word-at-requires-2 c κs = search needs
-
-word-at-requires-3 : tie.Need-word-at-requires-3
-word-at-requires-3 c κs = search needs
-
-word-at-requires-4 : tie.Need-word-at-requires-4
-word-at-requires-4 c κs = search needs
-
-word-at-requires-5 : tie.Need-word-at-requires-5
-word-at-requires-5 c κs = search needs
-
-draw-elements-from-guest-requires : tie.Need-draw-elements-from-guest-requires
-draw-elements-from-guest-requires c κs = search needs
-
-same-length : tie.Need-same-length
-same-length c = search needs
-
 returns : tie.Need-returns
 returns c = made-as (λ i. elements (c .before .before .before .before .before .before .word-at3 .ensures i) (c .before .before .before .before .before .word-at4 .ensures i) (c .before .before .before .before .word-at5 .ensures i)) (c .before .before .before .before .before .before .before .before .word-at .ensures) (c .before .before .before .before .before .before .before .word-at2 .ensures) (by-draw-elements-from-guest two (to _) (to _) (to _) refl (c .before .before .draw-elements-from-guest .ensures))
 
@@ -36,11 +15,11 @@ pub draw-stored-spec : {M : Type 1} → statement M
 draw-stored-spec =
     tie.close
     (tie.spec
-    word-at-requires
-    word-at-requires-2
-    word-at-requires-3
-    word-at-requires-4
-    word-at-requires-5
-    draw-elements-from-guest-requires
-    same-length
+    (λ c κs. search needs)
+    (λ c κs. search needs)
+    (λ c κs. search needs)
+    (λ c κs. search needs)
+    (λ c κs. search needs)
+    (λ c κs. search needs)
+    (λ c. search needs)
     returns)

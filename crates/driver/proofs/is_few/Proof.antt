@@ -4,9 +4,6 @@ use borrow.Author.Needs.{needs}
 use Rattle.driver.proofs.is_few.Statement.{statement}
 use Rattle.driver.proofs.is_few.Tie as tie
 
-can-be-read-requires : tie.Need-can-be-read-requires
-can-be-read-requires c κs = search needs
-
 returns : tie.Need-returns
 returns c = rw (sym (c .before .can-be-read .ensures), c .if1 .taken)
 
@@ -14,4 +11,4 @@ returns-2 : tie.Need-returns-2
 returns-2 c = rw (sym (c .before .can-be-read .ensures), c .if1 .left)
 
 pub is-few-spec : {M : Type 1} → statement M
-is-few-spec = tie.close (tie.spec can-be-read-requires returns returns-2)
+is-few-spec = tie.close (tie.spec (λ c κs. search needs) returns returns-2)

@@ -10,12 +10,6 @@ returns : tie.Need-returns
 unfolding isMade
 returns c = rw (eq-eqb _ 65536 (c .if1 .taken))
 
-is-call-requires : tie.Need-is-call-requires
-is-call-requires c κs = search needs
-
-borrows-store-requires : tie.Need-borrows-store-requires
-borrows-store-requires c κs = search needs
-
 returns-2 : tie.Need-returns-2
 unfolding isMade
 returns-2 c = rw (ne-eqb _ 65536 (c .before .before .before .if1 .left), sym (c .before .before .is-call .ensures), c .before .if2 .taken) (c .borrows-store .ensures)
@@ -26,4 +20,4 @@ returns-3 c = rw (ne-eqb _ 65536 (c .before .before .if1 .left), sym (c .before 
 
 pub is-made-spec : {M : Type 1} → statement M
 is-made-spec =
-    tie.close (tie.spec returns is-call-requires borrows-store-requires returns-2 returns-3)
+    tie.close (tie.spec returns (λ c κs. search needs) (λ c κs. search needs) returns-2 returns-3)
