@@ -25,14 +25,11 @@ module _ (P : ℕ → Bool) where
   one-counted zero k l e = absurd (omega arith)
   one-counted (suc n) k l e =
       ⊎-elim
-      (λ m. omega (arith, one-counted n k m e))
-      (λ m. let q : n ≡ k = omega arith in rw (q, e) (omega arith))
+      (λ (m : k < n). omega (arith, one-counted n k m e))
+      (λ (m : n ≤ k). let q : n ≡ k = omega arith in rw (q, e) (omega arith))
       (lt-or-ge k n)
 
 module _ (slots : List Slot) (r : ℕ) (h : NextLive slots 0 slotCount r) where
-  named : ℕ → Bool
-  named k = ltb 0 (nameAt slots k)
-
   unnamed : slotCount ≤ r → (k : ℕ) → k < slotCount → ltb 0 (nameAt slots k) ≡ false
   unnamed g k l = ⊎-elim (λ u. absurd (omega (arith, h .least k l u .0))) (λ z. le-ltb 0 (nameAt slots k) z) (lt-or-ge 0 (nameAt slots k))
 

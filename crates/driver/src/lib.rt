@@ -5,6 +5,7 @@ use buffers::SLOT_COUNT;
 use buffers::STORE_BYTES;
 use context::Context;
 use context::DrawReply;
+use records::CallReply;
 use stack::Matrix;
 use stack::MatrixStack;
 use stack::SAVED_LIMIT;
@@ -15,6 +16,8 @@ ghost use lib.ListN.{length};
 ghost use Rattle.draw.specs.Index.{rangeCount, indexWidth};
 ghost use Rattle.history.specs.Demand3.{DrawMade};
 ghost use Rattle.words.specs.Words.{wordAt};
+ghost use Rattle.records.specs.Perform.{Performs};
+ghost use Rattle.trace.specs.Decoded.{decoded};
 ghost use Rattle.driver.specs.Settings.{freshBorrowed, borrowedAfter, storeAfter, guestAfter};
 ghost use Rattle.driver.specs.Stacks.{matrixAt, stackOf};
 ghost use Rattle.driver.specs.Permitted.{anyLive, isCall, borrowsStore, isMade, canBeRead, isShort, isFew, suits, isPermitted};
@@ -261,6 +264,24 @@ pub fn is_permitted(c: Context, v: Borrowed, code: u32, w: &[u32]) -> bool
     let live = any_live(c.buffers);
     let enabled = c.arrays.vertex.enabled;
     suits_state(live, enabled, c.buffers.element_buffer, v, code, w)
+}
+
+// ---- calls
+
+// Makes the call of a record that is no draw. Its bytes are those of its words.
+pub fn call(
+    c: Context,
+    store: &mut [u8],
+    code: u32,
+    w: &[u32],
+    bytes: &[u8],
+    out: &mut [f32],
+) -> CallReply
+    ensures { λ r. ⌜ Performs c (now (store .entry)) (now (out .entry)) r (now (store .exit)) (now (out .exit)) (decoded (now (bytes .entry)) (length (now (out .entry))) code (now (w .entry))) ⌝ }
+{
+    let made = trace::made_words(code, w);
+    let words = trace::call_words(code, w, &made);
+    runner::make_call(c, store, trace::call_code(code), words, bytes, out)
 }
 
 // ---- draws

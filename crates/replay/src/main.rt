@@ -21,9 +21,7 @@ fn make_call(
     bytes: &[u8],
     out: &mut [f32],
 ) -> Context {
-    let made = trace::made_words(code, w);
-    let words = trace::call_words(code, w, &made);
-    let r = runner::make_call(c, store, trace::call_code(code), words, bytes, out);
+    let r = driver::call(c, store, code, w, bytes, out);
     answers::say_reply(code, r.number, r.value);
     r.context
 }
