@@ -8,7 +8,6 @@ use lib.ListN.{length, take, drop}
 use lib.Seq.{take-append-seam}
 use lib.Ieee.{Float}
 use Rattle.buffers.specs.Objects.{storeBytes}
-use denote.Ref.{RefT}
 use Rattle.draw.specs.Scene.{DrawState, DrawCall, Scene, sceneOf, Source, list, range, elements}
 use Rattle.draw.specs.Index.{indexTotal}
 use Rattle.draw.specs.Triangles.{triangleCount, Triangle, wordsOf}
@@ -23,6 +22,7 @@ use Rattle.context.specs.Calls.{Call, draw}
 use Rattle.context.specs.Rules.{drawing, step}
 use Rattle.context.specs.Contract.{Did, Drew, drawCall, drawnOf}
 use Rattle.history.specs.Demand3.{DrawMade, Made, History, logs, drawReplayed, Demand3, Counts, by-draw-elements, by-draw-arrays, by-draw-elements-from-guest, by-draw, start, then, by-set-matrix-mode, by-load-identity, by-load-matrix, by-mult-matrix, by-push-matrix, by-pop-matrix, by-translate, by-scale, by-rotate, by-frustum, by-ortho, by-gen-buffers, by-bind-buffer, by-delete-buffers, by-buffer-data, by-buffer-sub-data, by-set-vertex-pointer, by-set-color-pointer, by-set-normal-pointer, by-set-texcoord-pointer, by-set-client-state, by-set-client-active-texture, by-set-color, by-set-multi-texcoord, by-set-active-texture, by-set-capability, by-tex-env, by-set-tex-env-color, by-set-depth-func, by-set-depth-range, by-set-alpha-func, by-set-blend-func, by-set-cull-face, by-set-front-face, by-set-fog, by-take-error}
+use Rattle.history.proofs.References.{to, two, three}
 use Rattle.history.proofs.Replay.{run, run-more, run-draw}
 
 -- ---- each function's promise, as the contract of its call
@@ -147,16 +147,12 @@ counts-of g d r out out1 w =
 
 -- ---- draws with a view
 
--- a reference of which nothing but the list is read
-abbrev held : {X : Type 0} → X → RefT X
-held x = record { ptr = (0, 0); name = 0; now = x }
-
 drawn-made : (source : Source) {c : Context} {s guest : List ℕ} {code stages base : ℕ} {out out1 : List Float} {r : DrawReply}
     → Did (draw (drawCall source code stages base guest (length out))) c s (r .number) (r .context) s × Drew (drawCall source code stages base guest (length out)) c s (drawnOf r) out out1
     → DrawMade c s (drawCall source code stages base guest (length out)) out r out1
-drawn-made (list indices) {s = s} {guest = guest} {out = out} p = by-draw-elements ([], ([], ([], tt))) (held s) (held guest) (held indices) (held out) refl p
-drawn-made (range first count) {s = s} {guest = guest} {out = out} p = by-draw-arrays ([], ([], tt)) (held s) (held guest) (held out) refl p
-drawn-made (elements count ty pointer) {s = s} {guest = guest} {out = out} p = by-draw-elements-from-guest ([], ([], tt)) (held s) (held guest) (held out) refl p
+drawn-made (list indices) {s = s} {guest = guest} {out = out} p = by-draw-elements three (to s) (to guest) (to indices) (to out) refl p
+drawn-made (range first count) {s = s} {guest = guest} {out = out} p = by-draw-arrays two (to s) (to guest) (to out) refl p
+drawn-made (elements count ty pointer) {s = s} {guest = guest} {out = out} p = by-draw-elements-from-guest two (to s) (to guest) (to out) refl p
 
 pub demand-3 : Demand3
 demand-3 = record { replays = replays; equal-logs = same-draws; counts = λ h m. counts-of _ _ _ _ _ (replays h m); with-view = λ {c} {s} {guest} {source} p q. drawn-made source (p, q) }

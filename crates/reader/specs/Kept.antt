@@ -1,17 +1,29 @@
 -- What is known of a record that was read. Which bytes come is the system's choice, of which no contract speaks.
-use mathlib.Core.List.{List, [], _∷_}
+use mathlib.Core.Bool.{true}
+use mathlib.Core.List.{List}
 use mathlib.Core.Path.{_≡_}
-use Prim.Native.Nat.{ℕ}
-use Rattle.words.specs.Words.{wordAt}
+use Prim.Native.Nat.{ℕ, _*_, _≤_}
+use lib.ListN.{length, take}
 use Rattle.trace.specs.Trace.{faultOf}
+use Rattle.trace.specs.Fill.{filled, wordOf}
 use Rattle.trace.specs.declared.Fault.{Fault}
 use Rattle.reader.specs.declared.Header.{Header}
+use Rattle.reader.specs.declared.Opening.{Opening}
 
-abbrev pub headOf : List ℕ → List ℕ
-headOf w = wordAt w 0 ∷ wordAt w 1 ∷ wordAt w 2 ∷ wordAt w 3 ∷ wordAt w 4 ∷ wordAt w 5 ∷ []
+-- a record begins with two words: its opcode, and how many words follow
+abbrev pub openingOf : List ℕ → Opening
+openingOf bytes = record { code = wordOf bytes 0; n = wordOf bytes 1 }
 
--- its words are n, keep the format, and begin as the header says
+abbrev pub headerOf : ℕ → ℕ → Header
+headerOf code n = record { going = true; code = code; n = n }
+
+-- its words are n and keep the format
 pub record Kept (r : Header) (n : ℕ) (w : List ℕ) : Type 0 where
   pub fault : faultOf (r .code) w ≡ Fault.None
   pub size : r .n ≡ n
-  pub begins : r .head ≡ headOf w
+
+-- a record's words, all of them, are those of the bytes: an area of words that held w before holds w1
+pub record ReadFrom (r : Header) (bytes w w1 : List ℕ) : Type 0 where
+  pub kept : Kept r (r .n) (take (r .n) w1)
+  pub whole : 4 * r .n ≤ length bytes
+  pub words : w1 ≡ filled (wordOf bytes) (r .n) w

@@ -3,24 +3,34 @@ use trace::Fault;
 use trace::MAX_WORDS;
 ghost use mathlib.Core.Bool.{true, false};
 ghost use mathlib.Core.Path.{_≡_};
-ghost use lib.ListN.{take};
-ghost use Rattle.reader.specs.Kept.{headOf, Kept};
+ghost use Prim.Native.Nat.{_≤_};
+ghost use lib.ListN.{length};
+ghost use Rattle.reader.specs.Kept.{openingOf, headerOf, Kept, ReadFrom};
 
 const STDIN: i32 = 0;
 
-// A record that was read: its opcode, how many words it has, and the first six of them. Not `going` where there is none.
+// A record that was read: its opcode, and how many words it has. Not `going` where there is none.
 pub struct Header {
     pub going: bool,
     pub code: u32,
     pub n: usize,
-    pub head: [u32; 6],
 }
 
-fn word_of(bytes: [u8; 8], i: usize) -> u32 {
-    if i < 5 {
-        return number::le32(bytes[i], bytes[i + 1], bytes[i + 2], bytes[i + 3]);
+// The two words before a record's own: its opcode, and how many words it has.
+struct Opening {
+    code: u32,
+    n: u32,
+}
+
+fn opening_of(bytes: [u8; 8]) -> Opening
+    ensures { λ r. ⌜ r ≡ openingOf bytes ⌝ }
+{
+    let mut w = [0u32; 2];
+    trace::read_words(&bytes, &mut w);
+    Opening {
+        code: w[0],
+        n: w[1],
     }
-    0
 }
 
 // No record.
@@ -31,7 +41,6 @@ fn none() -> Header
         going: false,
         code: 0,
         n: 0,
-        head: [0; 6],
     }
 }
 
@@ -44,20 +53,13 @@ fn stop(record: u64, reason: &[u8]) -> Header
 }
 
 // A record with no fault.
-fn sound(code: u32, n: usize, w: &[u32]) -> Header
-    ensures { λ r. ⌜ (r .code ≡ code) × (r .n ≡ n) × (r .head ≡ headOf (now (w .entry))) ⌝ }
+fn sound(code: u32, n: usize) -> Header
+    ensures { λ r. ⌜ r ≡ headerOf code n ⌝ }
 {
-    let a = words::word_at(w, 0);
-    let b = words::word_at(w, 1);
-    let c = words::word_at(w, 2);
-    let d = words::word_at(w, 3);
-    let e = words::word_at(w, 4);
-    let head = [a, b, c, d, e, words::word_at(w, 5)];
     Header {
         going: true,
         code,
         n,
-        head,
     }
 }
 
@@ -69,21 +71,23 @@ fn checked(record: u64, code: u32, n: usize, w: &[u32]) -> Header
         Fault::Shape => stop(record, b"unknown opcode, or wrong number of words"),
         Fault::Bound => stop(record, b"a bound is passed"),
         Fault::Padding => stop(record, b"nonzero padding"),
-        Fault::None => sound(code, n, w),
+        Fault::None => sound(code, n),
     }
 }
 
 // Reads as many bytes, or answers false.
-fn read_body(body: &mut [u8], size: usize) -> bool {
+fn read_body(body: &mut [u8], size: usize) -> bool
+    ensures { λ r. ⌜ (r ≡ true → size ≤ length (now (body .exit))) ⌝ }
+{
     if body.len() < size {
         return false;
     }
     io::read_full(STDIN, &mut body[..size]) == size
 }
 
-// Reads the next record: its bytes, and its words. One that is going on keeps the format.
+// Reads the next record: its bytes, and its words. One that is going on keeps the format, and its words are those of the bytes.
 pub fn read_record(record: u64, body: &mut [u8], w: &mut [u32]) -> Header
-    ensures { λ r. ⌜ (r .going ≡ true → Kept r (r .n) (take (r .n) (now (w .exit)))) ⌝ }
+    ensures { λ r. ⌜ (r .going ≡ true → ReadFrom r (now (body .exit)) (now (w .entry)) (now (w .exit))) ⌝ }
 {
     let mut head = [0u8; 8];
     let got = io::read_full(STDIN, &mut head);
@@ -93,7 +97,8 @@ pub fn read_record(record: u64, body: &mut [u8], w: &mut [u32]) -> Header
     if got < 8 {
         return stop(record, b"the file ends inside the record");
     }
-    let n = word_of(head, 4) as usize;
+    let opening = opening_of(head);
+    let n = opening.n as usize;
     if MAX_WORDS < n {
         return stop(record, b"a bound is passed");
     }
@@ -101,5 +106,5 @@ pub fn read_record(record: u64, body: &mut [u8], w: &mut [u32]) -> Header
         return stop(record, b"the file ends inside the record");
     }
     trace::read_words(words::bytes_at(body, 0, 4 * n), w);
-    checked(record, word_of(head, 0), n, words::first_words(w, n))
+    checked(record, opening.code, n, words::first_words(w, n))
 }

@@ -7,8 +7,6 @@ use Prim.Native.Nat.{ℕ, max}
 use native.Mathlib.Omega.{arith}
 use borrow.Author.Tests.{leb-true, leb-false, eq-eqb, ne-eqb}
 use lib.Dec.{eqb, leb}
-use denote.Ref.{RefT}
-use contract.Lifetimes.{Lfts}
 use Rattle.number.specs.Tables.{Row, lookup}
 use Rattle.number.proofs.Tables.{NoneOf, misses}
 use Rattle.context.specs.declared.Context.{Context}
@@ -30,19 +28,6 @@ makes-is {c = c} {c1 = c1} {n = n} e m = subst (λ (j : Call). Makes j c n c1) e
 
 pub made-is : {k k′ : Call} {c c1 : Context} {n : ℕ} {s s1 : List ℕ} → k ≡ k′ → Made c s k n c1 s1 → Made c s k′ n c1 s1
 made-is {c = c} {c1 = c1} {n = n} {s = s} {s1 = s1} e m = subst (λ (j : Call). Made c s j n c1 s1) e m
-
--- what a function promises does not depend on where a reference points, nor on its lifetime: any will do
-abbrev pub to : {X : Type 0} → X → RefT X
-to x = record { ptr = (0, 0); name = 0; now = x }
-
-abbrev pub one : Lfts 1
-one = ([], tt)
-
-abbrev pub two : Lfts 2
-two = ([], one)
-
-abbrev pub three : Lfts 3
-three = ([], two)
 
 pub drew-is : (bytes w : List ℕ) (room : ℕ) {source source′ : Source} {c : Context} {s : List ℕ} {out out1 : List Float} {r : DrawReply} → source ≡ source′
     → DrewIn (drawOfWords bytes room source w) c s out r out1 → DrewIn (drawOfWords bytes room source′ w) c s out r out1

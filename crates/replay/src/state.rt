@@ -1,4 +1,4 @@
-// State that a record sets: a stack outside the context, and unsound contexts.
+// Contexts that a record makes unsound.
 use answers::next_live;
 use answers::slot_name;
 use buffers::Buffers;
@@ -6,36 +6,7 @@ use buffers::SLOT_COUNT;
 use buffers::Slot;
 use context::Context;
 use context::Stacks;
-use stack::Matrix;
 use stack::MatrixStack;
-use stack::SAVED_LIMIT;
-
-// ---- stacks
-
-// The matrix in the words from a place on; 0 past their end.
-fn matrix_at(w: &[u32], place: usize) -> Matrix {
-    Matrix {
-        entries: words::matrix_floats(words::words_from(w, place)),
-    }
-}
-
-// The stack of a STACK_SET record.
-pub fn stack_of(w: &[u32]) -> MatrixStack {
-    let current = matrix_at(w, 2);
-    let mut saved = [current; SAVED_LIMIT];
-    let mut k: usize = 0;
-    while k < SAVED_LIMIT {
-        saved[k] = matrix_at(w, 18 + 16 * k);
-        k += 1;
-    }
-    MatrixStack {
-        current,
-        saved,
-        depth: words::word_at(w, 1) as usize,
-    }
-}
-
-// ---- unsound contexts
 
 fn too_deep(s: MatrixStack) -> MatrixStack {
     let mut out = s;
@@ -110,9 +81,12 @@ fn unsound_stacks(s: Stacks, kind: u32) -> Stacks {
     out
 }
 
-// The context made unsound in a way: kinds 1 to 3 a stack, 4 and 5 a unit, the others the buffers.
+// The context made unsound in a way: kinds 1 to 3 a stack, 4 and 5 a unit, the others the buffers. Kind 8 cannot be.
 pub fn unsound(c: Context, kind: u32) -> Context {
     let mut out = c;
+    if kind == 8 {
+        return out;
+    }
     if kind < 4 {
         out.stacks = unsound_stacks(c.stacks, kind);
         return out;

@@ -3,7 +3,7 @@ use mathlib.Core.Path.{refl, ap}
 use Rattle.draw_records.proofs.Draws.{room-fits, room-is, drew-in}
 use Rattle.draw.specs.Scene.{list}
 use Rattle.history.specs.Demand3.{by-draw-elements}
-use Rattle.records.proofs.Records.{to, three}
+use Rattle.history.proofs.References.{to, three}
 use borrow.Author.Needs.{needs}
 use Rattle.draw_records.proofs.make_list_draw.Statement.{statement}
 use Rattle.draw_records.proofs.make_list_draw.Tie as tie

@@ -3,7 +3,7 @@ use mathlib.Core.Path.{refl}
 use Rattle.draw_records.proofs.Draws.{room-fits, room-is, drew-in}
 use Rattle.draw.specs.Scene.{range}
 use Rattle.history.specs.Demand3.{by-draw-arrays}
-use Rattle.records.proofs.Records.{to, two}
+use Rattle.history.proofs.References.{to, two}
 use borrow.Author.Needs.{needs}
 use Rattle.draw_records.proofs.make_range_draw.Statement.{statement}
 use Rattle.draw_records.proofs.make_range_draw.Tie as tie

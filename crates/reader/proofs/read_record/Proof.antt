@@ -1,5 +1,8 @@
 -- `reader::read_record` meets its contract.
-use Rattle.reader.proofs.Going.{stopped, all-kept}
+use borrow.Author.Tests.{not-false}
+use denote.Ref.{now}
+use Rattle.reader.proofs.Going.{stopped, read-from}
+use Rattle.reader.proofs.Reading.{words-read}
 use borrow.Author.Needs.{needs}
 use Rattle.reader.proofs.read_record.Statement.{statement}
 use Rattle.reader.proofs.read_record.Tie as tie
@@ -17,7 +20,7 @@ returns-4 : tie.Need-returns-4
 returns-4 c = stopped _ (c .stop3 .ensures)
 
 returns-5 : tie.Need-returns-5
-returns-5 c = λ g. all-kept (c .before .before .before .before .before .before .before .before .before .before .before .before .before .before .before .before .word-of .result) _ (c .before .first-words .ensures) (c .checked .ensures g)
+returns-5 c = λ g. let n = c .before .before .before .before .before .before .before .before .before .before .before .before .before .before .before .before .opening-of .result .n in let fits = c .before .before .before .before .before .before .before .before .before .before .before .before .read-body .ensures (not-false (c .before .before .before .before .before .before .before .before .before .before .before .before .read-body .result) (c .before .before .before .before .before .before .before .before .before .if4 .left)) in read-from n _ (now (c .before .before .before .before .before .before .before .before .before .before .before .before .before .before .before .before .before .before .before .before .before .before .before .before .args .w)) _ fits (words-read _ (now (c .before .before .before .before .before .before .before .before .before .before .before .before .before .before .before .before .before .before .before .before .before .before .before .before .args .w)) n fits (c .before .before .before .before .before .before .before .bytes-at .ensures) (c .before .before .before .before .before .read-words .ensures)) (c .before .first-words .ensures) (c .checked .ensures g)
 
 pub read-record-spec : {M : Type 1} → statement M
 read-record-spec =
@@ -42,7 +45,6 @@ read-record-spec =
     (λ c. search needs)
     returns-4
     (λ c. search needs)
-    (λ c κs. search needs)
     (λ c κs. search needs)
     (λ c κs. search needs)
     (λ c κs. search needs)

@@ -1,6 +1,7 @@
 -- `records::make_buffer` meets its contract: each arm is its row.
 use borrow.Author.Needs.{needs}
-use Rattle.records.proofs.Records.{last-row, answers-is, replied-is, to, one}
+use Rattle.records.proofs.Records.{last-row, answers-is, replied-is}
+use Rattle.history.proofs.References.{to, one}
 use mathlib.Core.Path.{refl, sym, ap, _∙_}
 use lib.Dec.{lit<}
 use Rattle.records.specs.Encoding.{bufferRows, bufferOf}

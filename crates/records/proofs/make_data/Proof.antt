@@ -1,7 +1,8 @@
 -- `records::make_data` meets its contract.
 use Rattle.context.specs.Calls.{object, buffer, bufferData}
 use Rattle.history.specs.Demand3.{by-buffer-data}
-use Rattle.records.proofs.Records.{made-is, to, two}
+use Rattle.records.proofs.Records.{made-is}
+use Rattle.history.proofs.References.{to, two}
 use mathlib.Core.Path.{refl}
 use borrow.Author.Needs.{needs}
 use Rattle.records.proofs.make_data.Statement.{statement}

@@ -1,7 +1,8 @@
 -- `records::make_sub_data` meets its contract.
 use Rattle.context.specs.Calls.{object, buffer, bufferSubData}
 use Rattle.history.specs.Demand3.{by-buffer-sub-data}
-use Rattle.records.proofs.Records.{made-is, to, two}
+use Rattle.records.proofs.Records.{made-is}
+use Rattle.history.proofs.References.{to, two}
 use mathlib.Core.Path.{refl}
 use borrow.Author.Needs.{needs}
 use Rattle.records.proofs.make_sub_data.Statement.{statement}

@@ -1,0 +1,21 @@
+-- `driver::call` meets its contract.
+use mathlib.Core.Path.{sym}
+use borrow.Author.Needs.{needs}
+use Rattle.driver.proofs.call.Statement.{statement}
+use Rattle.driver.proofs.call.Tie as tie
+
+returns : tie.Need-returns
+returns c = rw (sym (c .before .before .before .before .before .before .call-code .ensures), sym (c .before .before .before .before .before .before .before .before .before .before .made-words .ensures), sym (c .before .before .before .before .before .before .before .before .call-words .ensures)) (c .before .before .before .before .make-call .ensures)
+
+pub call-spec : {M : Type 1} → statement M
+call-spec =
+    tie.close
+    (tie.spec
+    (λ c κs. search needs)
+    (λ c. search needs)
+    (λ c κs. search needs)
+    (λ c κs. search needs)
+    (λ c κs. search needs)
+    (λ c. search needs)
+    (λ c. search needs)
+    returns)

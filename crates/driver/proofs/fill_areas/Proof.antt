@@ -1,0 +1,55 @@
+-- `driver::fill_areas` meets its contract: each arm is its row.
+use mathlib.Core.Path.{sym, ap}
+use denote.Ref.{now}
+use Rattle.records.proofs.Records.{last-row}
+use Rattle.driver.specs.Settings.{bytesOf, storeRows, storeAfter, guestRows, guestAfter}
+use borrow.Author.Needs.{needs}
+use Rattle.driver.proofs.fill_areas.Statement.{statement}
+use Rattle.driver.proofs.fill_areas.Tie as tie
+
+returns : tie.Need-returns
+unfolding storeAfter guestAfter
+returns c = (rw (c .before .before .before .before .match .keys1, sym (c .before .before .before .before .before .before .word-at .ensures)) (c .before .before .fill .ensures), rw (c .before .before .before .before .match .keys1))
+
+returns-2 : tie.Need-returns-2
+unfolding storeAfter guestAfter
+returns-2 c = (rw (c .before .before .before .before .before .match .keys2, sym (c .before .before .before .before .before .before .before .word-at .ensures), sym (c .before .before .before .before .before .before .word-at2 .ensures), sym (c .before .before .before .bytes-at .ensures)) (ap bytesOf (c .before .before .put .ensures .1)), rw (c .before .before .before .before .before .match .keys2))
+
+returns-3 : tie.Need-returns-3
+unfolding storeAfter guestAfter
+returns-3 c = (rw (c .before .before .before .before .before .match .keys3), rw (c .before .before .before .before .before .match .keys3, sym (c .before .before .before .before .before .before .word-at2 .ensures), sym (c .before .before .before .bytes-at2 .ensures)) (ap bytesOf (c .before .before .put2 .ensures .1)))
+
+returns-4 : tie.Need-returns-4
+unfolding storeAfter guestAfter
+returns-4 c = (rw (c .before .before .before .before .before .match .keys4), rw (c .before .before .before .before .before .match .keys4, sym (c .before .before .before .before .before .before .word-at2 .ensures), sym (c .before .before .before .word-at3 .ensures)) (c .before .before .fill2 .ensures))
+
+returns-5 : tie.Need-returns-5
+unfolding storeAfter guestAfter
+returns-5 c = let a = c .before .before .before .before .before .before .before .args in (last-row (storeRows (now (a .w)) (now (a .bytes)) (now (a .store))) _ _ (c .match .rest .0 .0), last-row (guestRows (now (a .w)) (now (a .bytes)) (now (a .guest))) _ _ ((tt, c .match .rest .0 .1), c .match .rest .1))
+
+pub fill-areas-spec : {M : Type 1} → statement M
+fill-areas-spec =
+    tie.close
+    (tie.spec
+    (λ c κs. search needs)
+    (λ c κs. search needs)
+    (λ c. search needs)
+    (λ c κs. search needs)
+    (λ c. search needs)
+    (λ c. search needs)
+    (λ c κs. search needs)
+    (λ c κs. search needs)
+    (λ c. search needs)
+    (λ c κs. search needs)
+    (λ c κs. search needs)
+    (λ c κs. search needs)
+    (λ c κs. search needs)
+    (λ c. search needs)
+    returns
+    (λ c. search needs)
+    returns-2
+    (λ c. search needs)
+    returns-3
+    (λ c. search needs)
+    returns-4
+    returns-5)

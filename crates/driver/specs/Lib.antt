@@ -1,0 +1,6 @@
+pub mod Settings
+pub mod Stacks
+pub mod Permitted
+pub mod Readable
+pub mod Draws
+pub mod Examples
