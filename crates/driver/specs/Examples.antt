@@ -9,7 +9,7 @@ use Rattle.draw.specs.Index.{indexWidth}
 use Rattle.context.specs.Contract.{drawCall}
 use Rattle.text.specs.Text.{putHeld, overwrite}
 use Rattle.driver.specs.Settings.{borrowed, freshBorrowed, borrowedAfter, storeAfter, guestAfter}
-use Rattle.driver.specs.Permitted.{isCall, borrowsStore, isMade, canBeRead, isShort, isFew}
+use Rattle.driver.specs.Permitted.{isCall, borrowsStore, isMade, canBeRead, isShort}
 use Rattle.driver.specs.Draws.{sourceOf, drawOf}
 
 -- each draw from its words: mode 5, mask 3, output length 102

@@ -1,4 +1,4 @@
-// The driver of a trace: what its records do to the areas that it lends, which may come in a state, a stack set by words, a draw's arguments.
+// What the records of a trace say: settings, which records may come in a state, stacks outside the context, calls and draws.
 use answers::next_live;
 use buffers::Buffers;
 use buffers::SLOT_COUNT;
@@ -162,7 +162,7 @@ fn borrows_store(code: u32) -> bool
     }
 }
 
-// Whether a record may come while so many bytes of the store are lent.
+// Whether a record may come while calls borrow so many bytes of the store.
 fn is_made(store: usize, code: u32) -> bool
     ensures { λ r. ⌜ r ≡ isMade store code ⌝ }
 {

@@ -191,8 +191,8 @@ fn run(store: &mut [u8], guest: &mut [u8], out: &mut [f32], body: &mut [u8], w: 
     }
 }
 
-// Lends the areas whole.
-fn lend(
+// Runs on arrays. An array's own length needs no proof where it is borrowed as an array.
+fn run_on(
     store: &mut [u8; STORE_AREA],
     guest: &mut [u8; GUEST_AREA],
     out: &mut [f32; MAX_OUTPUT],
@@ -214,5 +214,5 @@ fn main() {
     let mut out = [0.0f32; MAX_OUTPUT];
     let mut body = [0u8; 4 * MAX_WORDS];
     let mut w = [0u32; MAX_WORDS];
-    lend(&mut store, &mut guest, &mut out, &mut body, &mut w);
+    run_on(&mut store, &mut guest, &mut out, &mut body, &mut w);
 }

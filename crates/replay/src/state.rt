@@ -81,12 +81,10 @@ fn unsound_stacks(s: Stacks, kind: u32) -> Stacks {
     out
 }
 
-// The context made unsound in a way: kinds 1 to 3 a stack, 4 and 5 a unit, the others the buffers. Kind 8 cannot be.
+// The context made unsound in a way: kinds 1 to 3 a stack, 4 and 5 a unit, the others the buffers. Kind 8 cannot be: the element binding
+// stands in for it, so that what follows is refused all the same.
 pub fn unsound(c: Context, kind: u32) -> Context {
     let mut out = c;
-    if kind == 8 {
-        return out;
-    }
     if kind < 4 {
         out.stacks = unsound_stacks(c.stacks, kind);
         return out;
