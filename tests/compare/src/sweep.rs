@@ -640,6 +640,14 @@ fn unsound() -> List {
         };
         s.call(op::DUMP, &[sections]);
     }
+    // An unsound context takes no call, so its vertex array stays off and a range past the bound may come.
+    for kind in 1..=12 {
+        s.call(op::FRESH, &[]);
+        s.call(op::BIND, &[ARRAY_TARGET, 4]);
+        s.call(op::UNSOUND, &[kind]);
+        s.call(op::CLIENT_STATE, &[0x8074, 1]);
+        s.call(op::DRAW_ARRAYS, &[4, 0, ROOM, 0, 0x80000000]);
+    }
     s.call(op::FRESH, &[]);
     every_call(&mut s);
     s.call(op::DUMP, &[31]);
