@@ -341,7 +341,18 @@ fn draw_stored<'a>(
     let count = words::word_at(w, 3);
     let ty = words::word_at(w, 4);
     let pointer = words::word_at(w, 5);
-    view_draws::draw_elements_from_guest(c, store, base, guest, mode, count, ty, pointer, stages, out)
+    view_draws::draw_elements_from_guest(
+        c,
+        store,
+        base,
+        guest,
+        mode,
+        count,
+        ty,
+        pointer,
+        stages,
+        out,
+    )
 }
 
 // Makes the draw of a record. The output is as long as its words say.
