@@ -9,6 +9,7 @@ use records::CallReply;
 use stack::Matrix;
 use stack::MatrixStack;
 use stack::SAVED_LIMIT;
+use stack::StackAnswer;
 use trace::MAX_ENTRIES;
 use trace::STORE_AREA;
 ghost use mathlib.Core.Path.{_≡_};
@@ -19,7 +20,7 @@ ghost use Rattle.words.specs.Words.{wordAt};
 ghost use Rattle.records.specs.Perform.{Performs};
 ghost use Rattle.trace.specs.Decoded.{decoded};
 ghost use Rattle.driver.specs.Settings.{freshBorrowed, borrowedAfter, storeAfter, guestAfter};
-ghost use Rattle.driver.specs.Stacks.{matrixAt, stackOf};
+ghost use Rattle.driver.specs.Stacks.{matrixAt, stackOf, stackRecord};
 ghost use Rattle.driver.specs.Permitted.{anyLive, isCall, borrowsStore, isMade, canBeRead, isShort, isFew, suits, isPermitted};
 ghost use Rattle.driver.specs.Draws.{roomOf, listOf, rangeOf, elementsOf, drawFrom, drawOf};
 
@@ -122,6 +123,30 @@ pub fn stack_of(w: &[u32]) -> MatrixStack
         current,
         saved,
         depth: words::word_at(w, 1) as usize,
+    }
+}
+
+// What a record on one of those stacks answers: the number of push or pop, and the stack after it.
+pub fn stack_answer(s: MatrixStack, code: u32, w: &[u32]) -> StackAnswer
+    ensures { λ r. ⌜ r ≡ stackRecord code (now (w .entry)) s ⌝ }
+{
+    match code {
+        0x70 => {
+            let stack = stack_of(w);
+            return StackAnswer { number: 0, stack };
+        }
+        0x71 => {
+            return lent_stack::pushed(s);
+        }
+        0x72 => {
+            return lent_stack::popped(s);
+        }
+        _ => {
+            return StackAnswer {
+                number: 0,
+                stack: s,
+            };
+        }
     }
 }
 

@@ -1,6 +1,4 @@
 // Replays a trace: reads records from standard input, makes their calls and writes the answers to standard output.
-mod state;
-
 use context::Context;
 use driver::Borrowed;
 use reader::Header;
@@ -9,6 +7,9 @@ use trace::GUEST_AREA;
 use trace::MAX_OUTPUT;
 use trace::MAX_WORDS;
 use trace::STORE_AREA;
+ghost use mathlib.Core.Path.{_≡_};
+ghost use Rattle.driver.specs.Stacks.{isStackRecord, stackRecord, stacksAfter};
+ghost use Rattle.replay.specs.Records.{CallDone, DrawDone, Inspected, Done};
 
 // ---- calls
 
@@ -20,7 +21,9 @@ fn make_call(
     w: &[u32],
     bytes: &[u8],
     out: &mut [f32],
-) -> Context {
+) -> Context
+    ensures { λ r. ⌜ CallDone c code (now (w .entry)) (now (bytes .entry)) (now (store .entry)) (now (out .entry)) r (now (store .exit)) (now (out .exit)) ⌝ }
+{
     let r = driver::call(c, store, code, w, bytes, out);
     answers::say_reply(code, r.number, r.value);
     r.context
@@ -36,7 +39,9 @@ fn make_draw<'a>(
     base: u32,
     guest: &'a [u8],
     out: &mut [f32],
-) -> Context {
+) -> Context
+    ensures { λ r. ⌜ DrawDone c code (now (w .entry)) (now (store .entry)) base (now (guest .entry)) (now (out .entry)) r (now (out .exit)) ⌝ }
+{
     trace::mark(out);
     let r = driver::draw(c, code, w, store, base, guest, out);
     answers::say_call(code, &[r.number as u64, r.count as u64]);
@@ -47,45 +52,48 @@ fn make_draw<'a>(
 
 // ---- stacks outside the context
 
-fn push(s: MatrixStack) -> MatrixStack {
-    let r = lent_stack::pushed(s);
-    answers::say_numbers(b"STACK_PUSH", &[r.number as u64]);
-    r.stack
-}
-
-fn pop(s: MatrixStack) -> MatrixStack {
-    let r = lent_stack::popped(s);
-    answers::say_numbers(b"STACK_POP", &[r.number as u64]);
-    r.stack
-}
-
-fn use_stack(s: MatrixStack, code: u32, w: &[u32]) -> MatrixStack {
-    if code == 0x70 {
-        return driver::stack_of(w);
-    }
+fn say_stack_answer(code: u32, number: u32, s: MatrixStack) {
     if code == 0x71 {
-        return push(s);
+        answers::say_numbers(b"STACK_PUSH", &[number as u64]);
     }
     if code == 0x72 {
-        return pop(s);
+        answers::say_numbers(b"STACK_POP", &[number as u64]);
     }
-    answers::say_stack(s);
-    s
+    if code == 0x73 {
+        answers::say_stack(s);
+    }
 }
 
-fn use_stacks(stacks: [MatrixStack; 4], code: u32, w: &[u32]) -> [MatrixStack; 4] {
+fn use_stack(s: MatrixStack, code: u32, w: &[u32]) -> MatrixStack
+    ensures { λ r. ⌜ r ≡ stackRecord code (now (w .entry)) s .stack ⌝ }
+{
+    let r = driver::stack_answer(s, code, w);
+    say_stack_answer(code, r.number, r.stack);
+    r.stack
+}
+
+fn is_stack(code: u32) -> bool
+    ensures { λ r. ⌜ r ≡ isStackRecord code ⌝ }
+{
+    if code < 0x70 {
+        return false;
+    }
+    code < 0x74
+}
+
+fn use_stacks(stacks: [MatrixStack; 4], code: u32, w: &[u32]) -> [MatrixStack; 4]
+    ensures { λ r. ⌜ r ≡ stacksAfter code (now (w .entry)) stacks ⌝ }
+{
     let mut out = stacks;
     let slot = words::word_at(w, 0) as usize;
-    if is_stack(code) {
-        if slot < 4 {
-            out[slot] = use_stack(stacks[slot], code, w);
-        }
+    if !is_stack(code) {
+        return out;
     }
+    if 4 <= slot {
+        return out;
+    }
+    out[slot] = use_stack(stacks[slot], code, w);
     out
-}
-
-fn is_stack(code: u32) -> bool {
-    if code < 0x70 { false } else { code < 0x74 }
 }
 
 // ---- records
@@ -113,7 +121,9 @@ fn perform(
     store: &mut [u8],
     guest: &mut [u8],
     out: &mut [f32],
-) -> Context {
+) -> Context
+    ensures { λ r. ⌜ Done c v code (now (w .entry)) (now (bytes .entry)) (now (store .entry)) (now (guest .entry)) (now (out .entry)) r (now (store .exit)) (now (guest .exit)) (now (out .exit)) ⌝ }
+{
     if code < 0x70 {
         if 0x60 <= code {
             let end = driver::room_of(w, out.len());
@@ -146,14 +156,16 @@ fn say_unsound(kind: u32) {
 }
 
 // The records on the context that are no calls: FRESH, UNSOUND, DUMP.
-fn inspect(c: Context, code: u32, a: u32, store: &[u8]) -> Context {
+fn inspect(c: Context, code: u32, a: u32, store: &[u8]) -> Context
+    ensures { λ r. ⌜ Inspected c code a r ⌝ }
+{
     if code == 0x02 {
         answers::say_numbers(b"FRESH", &[0]);
         return Context::new();
     }
     if code == 0x7e {
         say_unsound(a);
-        return state::unsound(c, a);
+        return unsound::unsound(c, a);
     }
     if code == 0x7f {
         answers::say_state(c, store, a);
