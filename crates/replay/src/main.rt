@@ -7,9 +7,10 @@ use trace::GUEST_AREA;
 use trace::MAX_OUTPUT;
 use trace::MAX_WORDS;
 use trace::STORE_AREA;
+ghost use mathlib.Core.Bool.{true};
 ghost use mathlib.Core.Path.{_≡_};
 ghost use Rattle.driver.specs.Stacks.{isStackRecord, stackRecord, stacksAfter};
-ghost use Rattle.replay.specs.Records.{CallDone, DrawDone, Inspected, Done};
+ghost use Rattle.replay.specs.Records.{CallDone, DrawDone, Inspected, Comes, Done, Replays};
 
 // ---- calls
 
@@ -99,16 +100,22 @@ fn use_stacks(stacks: [MatrixStack; 4], code: u32, w: &[u32]) -> [MatrixStack; 4
 // ---- records
 
 // Reads the next record. Where it may not come now the answers end with the error line, and it is not going.
-fn next_record(c: Context, v: Borrowed, record: u64, body: &mut [u8], w: &mut [u32]) -> Header {
-    let mut h = reader::read_record(record, body, w);
-    if h.going {
-        let permitted = driver::is_permitted(c, v, h.code, words::first_words(w, h.n));
-        if !permitted {
-            answers::say_error(record, b"not in this state");
-        }
-        h.going = permitted;
+fn next_record(c: Context, v: Borrowed, record: u64, body: &mut [u8], w: &mut [u32]) -> Header
+    ensures { λ r. ⌜ (r .going ≡ true → Comes c v r (now (body .exit)) (now (w .entry)) (now (w .exit))) ⌝ }
+{
+    let h = reader::read_record(record, body, w);
+    if !h.going {
+        return h;
     }
-    h
+    if driver::is_permitted(c, v, h.code, words::first_words(w, h.n)) {
+        return h;
+    }
+    answers::say_error(record, b"not in this state");
+    Header {
+        going: false,
+        code: h.code,
+        n: h.n,
+    }
 }
 
 // Does what a record says, but for what is borrowed and the stacks outside the context.
@@ -174,7 +181,9 @@ fn inspect(c: Context, code: u32, a: u32, store: &[u8]) -> Context
 }
 
 // Does what the records say, one after the other.
-fn run(store: &mut [u8], guest: &mut [u8], out: &mut [f32], body: &mut [u8], w: &mut [u32]) {
+fn run(store: &mut [u8], guest: &mut [u8], out: &mut [f32], body: &mut [u8], w: &mut [u32])
+    ensures { λ r. ⌜ Replays (now (store .entry)) (now (guest .entry)) (now (out .entry)) (now (store .exit)) (now (guest .exit)) (now (out .exit)) ⌝ }
+{
     let mut c = Context::new();
     let mut v = Borrowed::new();
     let s = MatrixStack::new();
