@@ -1,4 +1,4 @@
--- Which records may come in a state (TRACE.md: "Input", "Settings", "Lent stacks, soundness, state", "Output").
+-- Which records may come in a state (TRACE.md: "Input", "Settings", "Outer stacks, unsound contexts, state", "Output").
 use mathlib.Core.Bool.{Bool, true, false, not, _&&_, _||_}
 use mathlib.Core.List.{List, [], _∷_}
 use Prim.Native.Nat.{ℕ, _+_, _-_, _*_}

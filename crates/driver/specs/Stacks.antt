@@ -1,4 +1,4 @@
--- The stacks outside the context (TRACE.md: "Lent stacks").
+-- The stacks outside the context (TRACE.md: "Outer stacks, unsound contexts, state").
 use mathlib.Core.Bool.{Bool, cond, _&&_}
 use mathlib.Core.List.{List, [], _∷_}
 use Prim.Native.Nat.{ℕ, _+_, _*_}

@@ -1,4 +1,4 @@
--- What the records of a trace do to what the program holds (TRACE.md: "Input", "Output"): the context, what is borrowed, the stacks outside the context, and the areas: the store's, the guest's and the output.
+-- What the records of a trace do to what the program holds (TRACE.md: "What the driver holds", "Outer stacks, unsound contexts, state", "Output"): the context, what is borrowed, the stacks outside the context, and the areas: the store's, the guest's and the output.
 use mathlib.Core.Bool.{true}
 use mathlib.Core.List.{List, _++_}
 use mathlib.Core.Path.{_≡_}

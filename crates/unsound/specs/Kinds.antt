@@ -1,4 +1,4 @@
--- What the kinds of UNSOUND make of a context (TRACE.md: "Lent stacks, soundness, state").
+-- What the kinds of UNSOUND make of a context (TRACE.md: "Outer stacks, unsound contexts, state").
 use mathlib.Core.Bool.{Bool, cond}
 use mathlib.Core.List.{List, [], _∷_}
 use mathlib.Core.Path.{_≡_}

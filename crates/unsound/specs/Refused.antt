@@ -91,7 +91,7 @@ module _ (b : Buffers) (places : length (b .slots) ≡ slotCount) (k last : ℕ)
       (rw (lt-ltb k slotCount lives) too-long, (in-two, (low-next _ (inl refl), (at-greatest, ((λ h. low-next _ (h .array-live) h), tt)))))
       (λ h. low-next _ (h .element-live) h)
 
--- ---- the context, where a name lives (TRACE.md: "A live name exists when it comes")
+-- ---- the context, where a name lives (TRACE.md: "Only while a buffer lives")
 
 pub never-sound : (c : Context) (kind name : ℕ) (r : Context) → length (c .buffers .slots) ≡ slotCount → Live (c .buffers .slots) name → ContextMade c kind r → Sound r → ⊥
 unfolding contextMade
