@@ -175,7 +175,7 @@ fn inspect(c: Context, code: u32, a: u32, store: &[u8]) -> Context
         return unsound::unsound(c, a);
     }
     if code == 0x7f {
-        answers::say_state(c, store, a);
+        dump::say_state(c, store, a);
     }
     c
 }

@@ -1,7 +1,7 @@
--- `answers::say_buffers` ends: what is left falls to 0.
+-- `dump::say_buffers` ends: what is left falls to 0.
 use native.Mathlib.Omega.{arith}
-use Rattle.answers.proofs.say_buffers.Statement.{statement}
-use Rattle.answers.proofs.say_buffers.Tie as tie
+use Rattle.dump.proofs.say_buffers.Statement.{statement}
+use Rattle.dump.proofs.say_buffers.Tie as tie
 
 abbrev Inv-loop : tie.InvT-loop
 Inv-loop b store name₀ left₀ name left = Unit {0}
@@ -9,39 +9,30 @@ Inv-loop b store name₀ left₀ name left = Unit {0}
 abbrev μ-loop : tie.MeasureT-loop
 μ-loop b store name₀ left₀ name left = left
 
--- src/lines.rt:310:5
 loop-holds : tie.Need-loop-holds Inv-loop μ-loop
 loop-holds c = tt
 
--- src/lines.rt:311:13
 next-live-requires : tie.Need-next-live-requires Inv-loop μ-loop
 next-live-requires c κs = tt
 
--- src/lines.rt:312:9
 say-buffer-requires : tie.Need-say-buffer-requires Inv-loop μ-loop
 say-buffer-requires c κs = tt
 
--- src/lines.rt:313:9
 slot-name-requires : tie.Need-slot-name-requires Inv-loop μ-loop
 slot-name-requires c κs = tt
 
--- src/lines.rt:314:9
 sub-left : tie.Need-sub-left Inv-loop μ-loop
 sub-left c = omega arith
 
--- src/lines.rt:310:5
 loop-less : tie.Need-loop-less Inv-loop μ-loop
 loop-less c = omega arith
 
--- src/lines.rt:310:5
 loop-again : tie.Need-loop-again Inv-loop μ-loop
 loop-again c = tt
 
--- src/lines.rt:307:1
 returns : tie.Need-returns Inv-loop μ-loop
 returns c = tt
 
--- src/lines.rt:307:1
 returns-2 : tie.Need-returns-2 Inv-loop μ-loop
 returns-2 c = tt
 
