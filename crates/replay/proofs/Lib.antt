@@ -1,3 +1,1 @@
-pub mod Done
-pub mod Stacks
 pub mod Replaying

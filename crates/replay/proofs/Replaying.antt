@@ -17,7 +17,8 @@ use Rattle.driver.specs.Stacks.{stackSlots, stacksAfter}
 use Rattle.driver.specs.Permitted.{isPermitted}
 use Rattle.reader.specs.Kept.{ReadFrom}
 use Rattle.reader.specs.declared.Header.{Header}
-use Rattle.replay.specs.Records.{Comes, Done, held, Replayed, started, followed}
+use Rattle.session.specs.Records.{Done}
+use Rattle.replay.specs.Replayed.{Comes, held, Replayed, started, followed}
 
 -- one that is not going promises nothing
 pub not-going : {P : Type 0} (b : Bool) → b ≡ false → b ≡ true → P

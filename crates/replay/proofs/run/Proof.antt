@@ -4,7 +4,7 @@ use Prim.Native.Nat.{_-_}
 use native.Mathlib.Omega.{arith}
 use lib.ListN.{length}
 use borrow.Author.Tests.{not-false}
-use Rattle.replay.specs.Records.{held, Replayed}
+use Rattle.replay.specs.Replayed.{held, Replayed}
 use Rattle.replay.proofs.Replaying.{starts, follows}
 use Rattle.replay.proofs.run.Statement.{statement}
 use Rattle.replay.proofs.run.Tie as tie

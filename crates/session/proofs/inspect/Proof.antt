@@ -1,8 +1,8 @@
 -- `inspect` meets its contract.
-use Rattle.replay.proofs.Done.{made-fresh, made-unsound, kept}
+use Rattle.session.proofs.Done.{made-fresh, made-unsound, kept}
 use borrow.Author.Needs.{needs}
-use Rattle.replay.proofs.inspect.Statement.{statement}
-use Rattle.replay.proofs.inspect.Tie as tie
+use Rattle.session.proofs.inspect.Statement.{statement}
+use Rattle.session.proofs.inspect.Tie as tie
 
 returns : tie.Need-returns
 returns c = made-fresh _ _ (c .before .before .before .before .if1 .taken) (c .new .ensures)

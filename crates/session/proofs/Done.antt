@@ -13,7 +13,7 @@ use Rattle.driver.specs.declared.Borrowed.{Borrowed}
 use Rattle.driver.specs.Settings.{storeAfter, guestAfter}
 use Rattle.driver.specs.Draws.{roomOf}
 use Rattle.unsound.specs.Kinds.{ContextMade}
-use Rattle.replay.specs.Records.{CallDone, DrawDone, Inspected, DrawIn, CallIn, OtherIn, Done}
+use Rattle.session.specs.Records.{CallDone, DrawDone, Inspected, DrawIn, CallIn, OtherIn, Done}
 
 -- ---- records on the context
 

@@ -1,7 +1,7 @@
 -- `is_stack` meets its contract.
 use borrow.Author.Tests.{lt-leb, le-leb}
-use Rattle.replay.proofs.is_stack.Statement.{statement}
-use Rattle.replay.proofs.is_stack.Tie as tie
+use Rattle.session.proofs.is_stack.Statement.{statement}
+use Rattle.session.proofs.is_stack.Tie as tie
 
 returns : tie.Need-returns
 returns c = rw (lt-leb _ _ (c .if1 .taken))

@@ -1,8 +1,8 @@
 -- `make_draw` meets its contract.
 use mathlib.Core.Path.{refl}
 use borrow.Author.Needs.{needs}
-use Rattle.replay.proofs.make_draw.Statement.{statement}
-use Rattle.replay.proofs.make_draw.Tie as tie
+use Rattle.session.proofs.make_draw.Statement.{statement}
+use Rattle.session.proofs.make_draw.Tie as tie
 
 returns : tie.Need-returns
 returns c = record { reply = _; made = rw (c .before .before .before .before .before .before .before .before .before .before .before .before .before .before .mark .ensures) at (c .before .before .before .before .before .before .before .before .before .before .draw .ensures); context = refl }

@@ -2,8 +2,8 @@
 use mathlib.Core.Path.{ap}
 use Rattle.stack.specs.declared.StackAnswer.{StackAnswer}
 use borrow.Author.Needs.{needs}
-use Rattle.replay.proofs.use_stack.Statement.{statement}
-use Rattle.replay.proofs.use_stack.Tie as tie
+use Rattle.session.proofs.use_stack.Statement.{statement}
+use Rattle.session.proofs.use_stack.Tie as tie
 
 returns : tie.Need-returns
 returns c = ap (λ (a : StackAnswer). a .stack) (c .before .before .stack-answer .ensures)

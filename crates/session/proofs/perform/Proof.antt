@@ -3,10 +3,10 @@ use mathlib.Core.Logic.{⊎-elim}
 use native.Mathlib.Omega.{arith}
 use Rattle.words.specs.Words.{wordAt}
 use Rattle.words.proofs.Words.{held-count}
-use Rattle.replay.proofs.Done.{drawn, called, others}
+use Rattle.session.proofs.Done.{drawn, called, others}
 use borrow.Author.Needs.{needs}
-use Rattle.replay.proofs.perform.Statement.{statement}
-use Rattle.replay.proofs.perform.Tie as tie
+use Rattle.session.proofs.perform.Statement.{statement}
+use Rattle.session.proofs.perform.Tie as tie
 
 slice-aggregate-make-draw : tie.Need-slice-aggregate-make-draw
 slice-aggregate-make-draw c = held-count (c .before .before .before .before .before .before .before .before .before .before .before .before .before .args .out .now) (wordAt (c .before .before .before .before .before .before .before .before .before .before .before .before .before .args .w .now) 2) _ (c .before .before .before .before .before .room-of .ensures)

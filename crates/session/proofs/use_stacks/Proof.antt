@@ -2,9 +2,9 @@
 use mathlib.Core.Path.{_≡_, sym, _∙_}
 use borrow.Author.Needs.{needs}
 use borrow.Author.Tests.{not-true, not-false}
-use Rattle.replay.proofs.Stacks.{no-record, no-slot, put}
-use Rattle.replay.proofs.use_stacks.Statement.{statement}
-use Rattle.replay.proofs.use_stacks.Tie as tie
+use Rattle.session.proofs.Stacks.{no-record, no-slot, put}
+use Rattle.session.proofs.use_stacks.Statement.{statement}
+use Rattle.session.proofs.use_stacks.Tie as tie
 
 returns : tie.Need-returns
 returns c = no-record _ _ _ _ (c .before .before .word-at .ensures) (sym (c .before .is-stack .ensures) ∙ not-true _ (c .if1 .taken))
