@@ -16,7 +16,7 @@ use Rattle.records.specs.declared.CallReply.{CallReply}
 use Rattle.words.specs.Words.{wordAt, fourFloats, matrixFloats}
 use Rattle.records.specs.Encoding.{matrixOf, bufferOf, arrayOf, attributeOf, pipelineOf, sourceOf, drawOfWords, callOf, isRecord, recordCall}
 use Rattle.records.specs.Perform.{Makes, isDraw, valueOf, Gives, DrewIn, replyOf, Performed, called, drew, Performs, was-made, was-unknown}
-use Rattle.records.proofs.Records.{Answers}
+use Rattle.buffer_records.proofs.Answers.{Answers}
 
 -- ---- which group a code is of
 

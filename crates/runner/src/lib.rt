@@ -29,7 +29,7 @@ fn perform(
         return records::replied(records::make_matrix(c, code, words::matrix_floats(w)));
     }
     if code < 0x30 {
-        return records::make_buffer(c, &mut store[..], code, w, bytes);
+        return buffer_records::make_buffer(c, &mut store[..], code, w, bytes);
     }
     if code < 0x36 {
         let a = words::word_at(w, 0);

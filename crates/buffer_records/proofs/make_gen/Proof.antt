@@ -1,9 +1,9 @@
--- `records::make_gen` meets its contract.
+-- `buffer_records::make_gen` meets its contract.
 use Rattle.history.specs.Demand3.{by-gen-buffers}
 use mathlib.Core.Path.{refl}
 use borrow.Author.Needs.{needs}
-use Rattle.records.proofs.make_gen.Statement.{statement}
-use Rattle.records.proofs.make_gen.Tie as tie
+use Rattle.buffer_records.proofs.make_gen.Statement.{statement}
+use Rattle.buffer_records.proofs.make_gen.Tie as tie
 
 returns : tie.Need-returns
 returns c = (refl, record { makes = λ s. by-gen-buffers (c .before .before .gen-buffers .ensures); value-is = c .before .before .gen-buffers .ensures .1 })

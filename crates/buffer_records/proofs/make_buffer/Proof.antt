@@ -1,14 +1,15 @@
--- `records::make_buffer` meets its contract: each arm is its row.
+-- `buffer_records::make_buffer` meets its contract: each arm is its row.
 use borrow.Author.Needs.{needs}
-use Rattle.records.proofs.Records.{last-row, answers-is, replied-is}
+use Rattle.records.proofs.Records.{last-row}
+use Rattle.buffer_records.proofs.Answers.{answers-is, replied-is}
 use Rattle.history.proofs.References.{to, one}
 use mathlib.Core.Path.{refl, sym, ap, _∙_}
 use lib.Dec.{lit<}
 use Rattle.records.specs.Encoding.{bufferRows, bufferOf}
 use Rattle.context.specs.Calls.{gen, bind}
 use Rattle.history.specs.Demand3.{by-bind-buffer, by-delete-buffers}
-use Rattle.records.proofs.make_buffer.Statement.{statement}
-use Rattle.records.proofs.make_buffer.Tie as tie
+use Rattle.buffer_records.proofs.make_buffer.Statement.{statement}
+use Rattle.buffer_records.proofs.make_buffer.Tie as tie
 
 long-at-requires : tie.Need-long-at-requires
 long-at-requires c κs = search needs
