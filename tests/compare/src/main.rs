@@ -4,6 +4,7 @@ mod answer;
 mod commands;
 mod coverage;
 mod damage;
+mod deck;
 mod differ;
 mod faults;
 mod generate;
@@ -29,7 +30,8 @@ compare compare SEED COUNT --replay PATH
 compare self SEED COUNT
 compare faults [SEED COUNT]
 compare coverage SEED COUNT
-compare record SEED COUNT DIR";
+compare record SEED COUNT DIR
+compare deck HOUR > TRACE";
 
 fn input() -> Vec<u8> {
     let mut bytes = Vec::new();
@@ -66,6 +68,7 @@ fn run(arguments: &[&str]) -> Option<bool> {
         ["faults", seed, count] => commands::faults(number(seed)?, number(count)?),
         ["coverage", seed, count] => commands::coverage(number(seed)?, number(count)?),
         ["record", seed, count, dir] => commands::record(number(seed)?, number(count)?, dir),
+        ["deck", hour] => print(&deck::trace(hour)?),
         _ => return None,
     })
 }
