@@ -1,4 +1,4 @@
-# Sourced by the scripts beside it: where the programs of the tests come from.
+# Sourced by ./run, ./compare and the scripts beside it: where the programs that they run come from.
 root=$(cd "$(dirname "${BASH_SOURCE[0]}")/.." && pwd)
 
 # Sets `replay` to the path of the replay program. REPLAY names another program to run in its place.
@@ -10,10 +10,46 @@ find_replay() {
         printf '%s stands in for the replay program\n' "$REPLAY" >&2
         return
     fi
-    local said
-    command -v rt >/dev/null || { echo "the Rattle kit's command rt is not on the path" >&2; return 1; }
-    said=$(cd "$root" && rt check replay 2>&1) || { tail -n 20 <<<"$said" >&2; return 1; }
+    command -v rt >/dev/null || { echo "the Rattle kit's command rt is not on the path (README.md, What you need)" >&2; return 1; }
     replay=$root/target/bin/replay
+    local log status
+    mkdir -p "$root/target" && log=$(mktemp) || return 1
+    # The kit's stamps say what is proved, not whether the program still lies there.
+    [ -x "$replay" ] || rm -f "$root/target/stamp/replay"
+    check_alone 9>"$root/target/replay.lock" 2>&1 | tee "$log" | show_progress
+    status=${PIPESTATUS[0]}
+    if [ "$status" -ne 0 ] || [ ! -x "$replay" ]; then
+        tail -n 20 "$log" >&2
+        mv "$log" "$root/target/replay.log"
+        echo "the replay program is not proved; target/replay.log has all that rt said" >&2
+        return 1
+    fi
+    rm -f "$log"
+}
+
+# Two at once would prove into one folder and spoil each other's result.
+check_alone() {
+    cd "$root" || return
+    ! command -v flock >/dev/null || flock 9
+    rt check replay
+}
+
+# Of what `rt check replay` prints, one line for each crate that is proved now; nothing where all are proved already.
+show_progress() {
+    local line number=0 told= total
+    total=$(sed -n 's/^replay: *//p' "$root/crates.txt" | tr ' ' '\n' | grep -cvxE 'io|libc|os')
+    [ -x "$replay" ] || tell_wait
+    while IFS= read -r line; do
+        case $line in 'rt: '*' proved ('*) number=$((number + 1)) ;; *) continue ;; esac
+        case $line in *'(unchanged '*) continue ;; esac
+        tell_wait
+        printf '  %2d of %d: %s\n' "$number" $((total + 1)) "${line#rt: }" >&2
+    done
+}
+
+tell_wait() {
+    [ -n "$told" ] || echo "The replay program is proved and built first: about 7 minutes from nothing on two free cores, once." >&2
+    told=1
 }
 
 # Sets `compare` to the path of the comparison. PocketHLE's sources are sought in shared/docs/src beside the repository or a folder above. Status 3, with the reason in `reason`, if it cannot be built here.
