@@ -52,8 +52,9 @@ tell_wait() {
     told=1
 }
 
-# Sets `compare` to the path of the comparison. PocketHLE's sources are sought in shared/docs/src beside the repository or a folder above. Status 3, with the reason in `reason`, if it cannot be built here.
-find_compare() {
+# Sets POCKET_GLES_SRC to the folder of PocketHLE's sources. They are sought in shared/docs/src beside the repository or a folder above.
+# Status 3, with the reason in `reason`, if the comparison cannot be built here.
+find_sources() {
     local source=${POCKET_GLES_SRC:-} up file
     for up in .. ../.. ../../..; do
         [ -n "$source" ] || [ ! -d "$root/$up/shared/docs/src" ] || source=$root/$up/shared/docs/src
@@ -68,6 +69,11 @@ find_compare() {
     done
     POCKET_GLES_SRC=$(realpath "$source")
     export POCKET_GLES_SRC
+}
+
+# Sets `compare` to the path of the comparison. Status 3 as above.
+find_compare() {
+    find_sources || return
     (cd "$root/tests/compare" && cargo build --quiet --release --offline --locked) || return 1
     compare=$root/tests/compare/target/release/compare
 }
