@@ -26,7 +26,7 @@ use Rattle.words.specs.Words.{wordAt}
 use Rattle.records.specs.Encoding.{recordCall}
 use Rattle.records.specs.Perform.{isDraw, DrewIn, Performed, called, drew, Performs, was-made, was-unknown}
 use Rattle.runner.specs.Lists.{recordLength, firstCall, onward, decodeTo, wordsTo, decode, wordsRead}
-use Rattle.runner.specs.Run.{Steps, went-on, ended, outputAfter, outputFrom}
+use Rattle.runner.specs.Run.{Steps, went-on, ended, outputAfter, outputFrom, Continues}
 
 -- ---- the record at a place
 
@@ -91,6 +91,18 @@ pub steps-less : {size place left : ℕ} {c : Context} {s s1 : List ℕ} {out ou
 steps-less (went-on p ep el) h = omega arith
 steps-less (ended ep el ec es eo) h = omega arith
 
+abbrev is-some : Option Call → Bool
+is-some (some k) = true
+is-some none = false
+
+-- the next record starts within the words
+pub steps-inside : (words bytes : List ℕ) (place room : ℕ) {left : ℕ} {c : Context} {s s1 : List ℕ} {out out1 : List Float} {r : StepReply} → place ≤ length words → Steps (recordLength (drop place words)) place left c s out r s1 out1 (firstCall bytes room (drop place words)) → r .place ≤ length words
+steps-inside words bytes place room {left = left} {c = c} {s = s} {s1 = s1} {out = out} {out1 = out1} {r = r} h p = go (firstCall bytes room (drop place words)) refl p
+  where
+    go : (o : Option Call) → firstCall bytes room (drop place words) ≡ o → Steps (recordLength (drop place words)) place left c s out r s1 out1 o → r .place ≤ length words
+    go o f (went-on q ep el) = omega (arith, record-inside words place (recordLength (drop place words)) refl (λ z. true≢false (sym (ap is-some (no-record words place (recordLength (drop place words)) refl bytes room z ∙ f)))) .1)
+    go o f (ended ep el ec es eo) = omega arith
+
 -- ---- the output of a call
 
 made-room : {c : Context} {s : List ℕ} {d : DrawCall} {out out1 : List Float} {r : DrawReply} → DrawMade c s d out r out1 → d .room ≡ length out
@@ -127,22 +139,17 @@ performed-made (called m f v e) = m
 performed-made {c = c} {c1 = c1} {s = s} {n = n} {k = k} (drew m e) = subst (λ (t : List ℕ). Made c s k n c1 t) (sym e) (by-draw (m .made))
 
 -- what has been made, and what is left to make, are the whole list
-pub record Progress (words bytes : List ℕ) (out₀ : List Float) (place left : ℕ) (c : Context) (s : List ℕ) (out : List Float) : Type 0 where
+pub record Progress (start : List Call) (words bytes : List ℕ) (out₀ : List Float) (place left : ℕ) (c : Context) (s : List ℕ) (out : List Float) : Type 0 where
   pub before : List Call
   pub history : History before c s
-  pub calls : before ++ decodeTo left bytes (length out₀) (drop place words) ≡ decode bytes (length out₀) words
+  pub calls : before ++ decodeTo left bytes (length out₀) (drop place words) ≡ start ++ decode bytes (length out₀) words
   pub read : place + wordsTo left bytes (length out₀) (drop place words) ≡ wordsRead bytes (length out₀) words
-  pub output : outputFrom before (decodeTo left bytes (length out₀) (drop place words)) out ≡ outputFrom [] (decode bytes (length out₀) words) out₀
-  pub inside : place ≤ length words
+  pub output : outputFrom before (decodeTo left bytes (length out₀) (drop place words)) out ≡ outputFrom start (decode bytes (length out₀) words) out₀
 
-abbrev is-some : Option Call → Bool
-is-some (some k) = true
-is-some none = false
-
-module _ {words bytes : List ℕ} {out₀ : List Float} {place m : ℕ} {c : Context} {s : List ℕ} {out : List Float} (g : Progress words bytes out₀ place (suc m) c s out) where
+module _ {start : List Call} {words bytes : List ℕ} {out₀ : List Float} {place m : ℕ} {c : Context} {s : List ℕ} {out : List Float} (g : Progress start words bytes out₀ place (suc m) c s out) where
   -- one call more
   progress-made : {k : Call} {n value : ℕ} {c1 : Context} {s1 : List ℕ} {out1 : List Float} → firstCall bytes (length out₀) (drop place words) ≡ some k → Performed c s out n value c1 s1 out1 k
-      → Progress words bytes out₀ (place + recordLength (drop place words)) m c1 s1 out1
+      → Progress start words bytes out₀ (place + recordLength (drop place words)) m c1 s1 out1
   unfolding decodeTo wordsTo outputFrom
   progress-made {k = k} {out1 = out1} f p =
       let room = length out₀ in
@@ -162,11 +169,10 @@ module _ {words bytes : List ℕ} {out₀ : List Float} {place m : ℕ} {c : Con
         output =
             ap (λ (o : List Float). outputFrom (g .before ++ (k ∷ [])) (decodeTo m bytes room (drop (place + size) words)) o) (output-is (g .history) p)
             ∙ sym (ap (λ (l : List Call). outputFrom (g .before) l out) more) ∙ g .output;
-        inside = record-inside words place size refl (λ z. true≢false (sym (ap is-some (no-record words place size refl bytes room z ∙ f)))) .1;
       }
 
   -- no record follows
-  progress-ended : firstCall bytes (length out₀) (drop place words) ≡ none → Progress words bytes out₀ place 0 c s out
+  progress-ended : firstCall bytes (length out₀) (drop place words) ≡ none → Progress start words bytes out₀ place 0 c s out
   unfolding decodeTo wordsTo outputFrom
   progress-ended f =
       let room = length out₀ in
@@ -178,32 +184,35 @@ module _ {words bytes : List ℕ} {out₀ : List Float} {place m : ℕ} {c : Con
         calls = ap (λ (l : List Call). g .before ++ l) (sym stop) ∙ g .calls;
         read = ap (λ (n : ℕ). place + n) (sym (ap (λ o. onward o (λ j. size + wordsTo m bytes room (drop size (drop place words))) 0) f)) ∙ g .read;
         output = sym (ap (λ (l : List Call). outputFrom (g .before) l out) stop) ∙ g .output;
-        inside = g .inside;
       }
 
   pub progress-step : {r : StepReply} {s1 : List ℕ} {out1 : List Float} (o : Option Call) → firstCall bytes (length out₀) (drop place words) ≡ o
-      → Steps (recordLength (drop place words)) place (suc m) c s out r s1 out1 o → Progress words bytes out₀ (r .place) (r .left) (r .context) s1 out1
-  progress-step {r = r} {s1 = s1} {out1 = out1} o f (went-on p ep el) = let q : m ≡ r .left = omega arith in subst (λ (x : ℕ × ℕ). Progress words bytes out₀ (x .0) (x .1) (r .context) s1 out1) (λ i. (sym ep i, q i)) (progress-made f p)
+      → Steps (recordLength (drop place words)) place (suc m) c s out r s1 out1 o → Progress start words bytes out₀ (r .place) (r .left) (r .context) s1 out1
+  progress-step {r = r} {s1 = s1} {out1 = out1} o f (went-on p ep el) = let q : m ≡ r .left = omega arith in subst (λ (x : ℕ × ℕ). Progress start words bytes out₀ (x .0) (x .1) (r .context) s1 out1) (λ i. (sym ep i, q i)) (progress-made f p)
   progress-step {r = r} {s1 = s1} {out1 = out1} o f (ended ep el ec es eo) =
-      subst (λ (x : ℕ × ℕ). Progress words bytes out₀ (x .0) (x .1) (r .context) s1 out1) (λ i. (sym ep i, sym el i))
-      (subst (λ (x : Context × List ℕ × List Float). Progress words bytes out₀ place 0 (x .0) (x .1) (x .2)) (λ i. (sym ec i, sym es i, sym eo i)) (progress-ended f))
+      subst (λ (x : ℕ × ℕ). Progress start words bytes out₀ (x .0) (x .1) (r .context) s1 out1) (λ i. (sym ep i, sym el i))
+      (subst (λ (x : Context × List ℕ × List Float). Progress start words bytes out₀ place 0 (x .0) (x .1) (x .2)) (λ i. (sym ec i, sym es i, sym eo i)) (progress-ended f))
 
-module _ {words bytes : List ℕ} {out₀ : List Float} where
-  pub progress-next : {place left : ℕ} {c : Context} {s s1 : List ℕ} {out out1 : List Float} {r : StepReply} → Progress words bytes out₀ place left c s out → 0 < left → length out ≡ length out₀
-      → Steps (recordLength (drop place words)) place left c s out r s1 out1 (firstCall bytes (length out) (drop place words)) → Progress words bytes out₀ (r .place) (r .left) (r .context) s1 out1
+module _ {start : List Call} {words bytes : List ℕ} {out₀ : List Float} where
+  pub progress-next : {place left : ℕ} {c : Context} {s s1 : List ℕ} {out out1 : List Float} {r : StepReply} → Progress start words bytes out₀ place left c s out → 0 < left → length out ≡ length out₀
+      → Steps (recordLength (drop place words)) place left c s out r s1 out1 (firstCall bytes (length out) (drop place words)) → Progress start words bytes out₀ (r .place) (r .left) (r .context) s1 out1
   progress-next {left = zero} g h size p = absurd (omega arith)
   progress-next {place = place} {left = suc m} {c = c} {s = s} {s1 = s1} {out = out} {out1 = out1} {r = r} g h size p =
       progress-step g (firstCall bytes (length out₀) (drop place words)) refl
       (subst (λ (n : ℕ). Steps (recordLength (drop place words)) place (suc m) c s out r s1 out1 (firstCall bytes n (drop place words))) size p)
 
   -- before the first call
-  pub progress-start : {c : Context} {s : List ℕ} → History [] c s → Progress words bytes out₀ 0 (length words) c s out₀
-  progress-start h = record { before = []; history = h; calls = refl; read = zero-add _; output = refl; inside = omega arith }
+  pub progress-start : {c : Context} {s : List ℕ} → History start c s → Progress start words bytes out₀ 0 (length words) c s out₀
+  progress-start h = record { before = start; history = h; calls = refl; read = zero-add _; output = refl }
 
   -- after the last
-  pub progress-done : {place left : ℕ} {c : Context} {s : List ℕ} {out : List Float} → Progress words bytes out₀ place left c s out → left ≤ 0
-      → (place ≡ wordsRead bytes (length out₀) words) × History (decode bytes (length out₀) words) c s × (out ≡ outputFrom [] (decode bytes (length out₀) words) out₀)
+  pub progress-done : {place left : ℕ} {c : Context} {s : List ℕ} {out : List Float} → Progress start words bytes out₀ place left c s out → left ≤ 0
+      → Continues start words bytes out₀ (record { read = place; context = c }) s out
   unfolding decodeTo wordsTo outputFrom
   progress-done {left = suc m} g h = absurd (omega arith)
   progress-done {place = place} {left = zero} {c = c} {s = s} g h =
-      (sym (add-zero place) ∙ g .read, subst (λ (l : List Call). History l c s) (sym (append-nil (g .before)) ∙ g .calls) (g .history), g .output)
+      record {
+        read = sym (add-zero place) ∙ g .read;
+        history = subst (λ (l : List Call). History l c s) (sym (append-nil (g .before)) ∙ g .calls) (g .history);
+        output = g .output;
+      }

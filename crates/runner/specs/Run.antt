@@ -13,6 +13,7 @@ use Rattle.context.specs.Calls.{Call, matrix, mode, object, attribute, pipeline
 use Rattle.history.specs.Demand3.{Logs, logs, drawReplayed, History}
 use Rattle.records.specs.Perform.{Performed}
 use Rattle.runner.specs.declared.StepReply.{StepReply}
+use Rattle.runner.specs.declared.ListReply.{ListReply}
 use Rattle.runner.specs.declared.RunReply.{RunReply}
 use Rattle.runner.specs.Lists.{decode, wordsRead}
 
@@ -39,6 +40,12 @@ outputAfter g (draw d) out = outputOf (drawReplayed g d .triangles) out
 unfoldable pub outputFrom : List Call → List Call → List Float → List Float
 outputFrom before [] out = out
 outputFrom before (k ∷ l) out = outputFrom (before ++ (k ∷ [])) l (outputAfter (logs before) k out)
+
+-- The calls of a list are made after other calls, up to the first words that are no record.
+pub record Continues (before : List Call) (words bytes : List ℕ) (out : List Float) (r : ListReply) (s1 : List ℕ) (out1 : List Float) : Type 0 where
+  pub read : r .read ≡ wordsRead bytes (length out) words
+  pub history : History (before ++ decode bytes (length out) words) (r .context) s1
+  pub output : out1 ≡ outputFrom before (decode bytes (length out) words) out
 
 -- A store of the wrong size is refused with 1, and nothing is done. Else the calls of the list are made, up to the first words that are no record.
 pub record Runs (words bytes s : List ℕ) (out : List Float) (r : RunReply) (s1 : List ℕ) (out1 : List Float) : Type 0 where

@@ -3,14 +3,17 @@ use buffers::INVALID;
 use buffers::STORE_BYTES;
 use context::Context;
 use records::CallReply;
+ghost use mathlib.Core.List.{List};
 ghost use mathlib.Core.Option.{some};
 ghost use mathlib.Core.Path.{_≡_};
 ghost use Prim.Native.Nat.{_<_, _≤_};
 ghost use lib.ListN.{length, drop};
+ghost use Rattle.context.specs.Calls.{Call};
+ghost use Rattle.history.specs.Demand3.{History};
 ghost use Rattle.records.specs.Encoding.{callOf, recordCall};
 ghost use Rattle.records.specs.Perform.{Performs};
 ghost use Rattle.runner.specs.Lists.{recordLength, firstCall};
-ghost use Rattle.runner.specs.Run.{Steps, Runs};
+ghost use Rattle.runner.specs.Run.{Steps, Continues, Runs};
 
 fn perform(
     c: Context,
@@ -96,6 +99,12 @@ struct StepReply {
 }
 
 // After a list: how many words were read, and the context. The list was read whole where that is its length.
+pub struct ListReply {
+    pub read: usize,
+    pub context: Context,
+}
+
+// The same, with the number of a list that was asked for on a store.
 pub struct RunReply {
     pub number: u32,
     pub read: usize,
@@ -159,18 +168,17 @@ fn next_call(
     }
 }
 
-// Makes the calls of a list, one after the other, on a fresh context.
-pub fn run(words: &[u32], bytes: &[u8], store: &mut [u8], out: &mut [f32]) -> RunReply
-    ensures { λ r. ⌜ Runs (now (words .entry)) (now (bytes .entry)) (now (store .entry)) (now (out .entry)) r (now (store .exit)) (now (out .exit)) ⌝ }
+// Makes the calls of a list, one after the other.
+pub fn run_on(
+    c: Context,
+    words: &[u32],
+    bytes: &[u8],
+    store: &mut [u8],
+    out: &mut [f32],
+) -> ListReply
+    ensures { λ r. ⌜ ((before : List Call) → History before c (now (store .entry)) → Continues before (now (words .entry)) (now (bytes .entry)) (now (out .entry)) r (now (store .exit)) (now (out .exit))) ⌝ }
 {
-    let mut c = Context::new();
-    if store.len() != STORE_BYTES {
-        return RunReply {
-            number: INVALID,
-            read: 0,
-            context: c,
-        };
-    }
+    let mut c = c;
     let mut place: usize = 0;
     let mut left = words.len();
     while left > 0 {
@@ -179,9 +187,29 @@ pub fn run(words: &[u32], bytes: &[u8], store: &mut [u8], out: &mut [f32]) -> Ru
         place = r.place;
         left = r.left;
     }
-    RunReply {
-        number: 0,
+    ListReply {
         read: place,
         context: c,
+    }
+}
+
+// Makes the calls of a list on a fresh context.
+pub fn run(words: &[u32], bytes: &[u8], store: &mut [u8], out: &mut [f32]) -> RunReply
+    ensures { λ r. ⌜ Runs (now (words .entry)) (now (bytes .entry)) (now (store .entry)) (now (out .entry)) r (now (store .exit)) (now (out .exit)) ⌝ }
+{
+    let c = Context::new();
+    if store.len() != STORE_BYTES {
+        return RunReply {
+            number: INVALID,
+            read: 0,
+            context: c,
+        };
+    }
+    let r = run_on(c, words, bytes, &mut store[..], &mut out[..]);
+    let context = r.context;
+    RunReply {
+        number: 0,
+        read: r.read,
+        context,
     }
 }
