@@ -12,7 +12,7 @@ const FILES: [(&str, &str); 6] = [
     ("context", "context"),
 ];
 
-fn main() {
+pub fn main() {
     println!("cargo:rerun-if-env-changed=POCKET_GLES_SRC");
     let root = env::var("POCKET_GLES_SRC").unwrap_or("../../../shared/docs/src".into());
     let here = PathBuf::from(env::var("CARGO_MANIFEST_DIR").unwrap());

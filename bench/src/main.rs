@@ -1,0 +1,210 @@
+//! Times the library beside PocketHLE's Rust: the same calls, in one process, turn about, the best of many rounds.
+
+mod call;
+mod mix;
+mod ours;
+mod theirs;
+
+use call::{Call, Work, ARRAY, FLOAT};
+use ours::Ours;
+use pocket::raster;
+use std::hint::black_box;
+use std::time::{Duration, Instant};
+use theirs::Theirs;
+
+/// Bytes of the library's Context: three stacks, buffers, arrays, current values, settings.
+const CONTEXT: usize = 3600;
+
+struct Plan {
+    rounds: u32,
+    slice: Duration,
+    sizes: usize,
+    only: Option<String>,
+}
+
+fn main() {
+    let words: Vec<String> = std::env::args().skip(1).collect();
+    let word = |name: &str| words.iter().position(|w| w == name).and_then(|i| words.get(i + 1)).cloned();
+    let smoke = words.iter().any(|w| w == "--smoke");
+    let plan = Plan {
+        rounds: if smoke { 3 } else { 25 },
+        slice: Duration::from_millis(if smoke { 2 } else { 8 }),
+        sizes: if smoke { 1 } else { 3 },
+        only: word("--only"),
+    };
+    if let Some(side) = word("--side") {
+        return profile(&plan, &side, word("--times").map_or(100, |n| n.parse().unwrap()));
+    }
+    draws(&plan);
+    if plan.only.is_none() {
+        floors(&plan);
+        states(&plan);
+    }
+}
+
+/// One side alone, for a profiler.
+fn profile(plan: &Plan, side: &str, times: u32) {
+    for mix in chosen(plan) {
+        let size = mix.sizes[0];
+        let work = mix.work(size);
+        raster::keep(work.last);
+        match side {
+            "ours" => Ours::new(&work, 51 * work.last).run(times),
+            _ => Theirs::new(&work).run(times),
+        }
+        println!("{}: {} triangles", mix.name, times as usize * size);
+    }
+}
+
+fn chosen(plan: &Plan) -> Vec<mix::Mix> {
+    let mut mixes = mix::all();
+    if let Some(part) = &plan.only {
+        mixes.retain(|m| m.name.contains(part));
+    }
+    mixes
+}
+
+// ---- draws ----
+
+fn draws(plan: &Plan) {
+    println!("## Draws, ns a triangle: Rust / ours = ratio\n");
+    println!("| mix | 100 triangles | 10,000 | 100,000 in parts | growth |\n|---|---|---|---|---|");
+    let mut least = [f64::MAX; 2];
+    for mix in chosen(plan) {
+        let mut cells = Vec::new();
+        let mut ns = Vec::new();
+        for &size in mix.sizes.iter().take(plan.sizes) {
+            let work = mix.work(size);
+            let (theirs, ours) = both(&work, plan);
+            let each = work.triangles as f64;
+            let ratio = theirs / ours;
+            let kind = &mut least[mix.common as usize];
+            *kind = kind.min(ratio);
+            ns.push(ours / each);
+            let size = if mix.sizes.len() == 3 { String::new() } else { format!("{size}: ") };
+            cells.push(format!("{size}{:.1} / {:.1} = {ratio:.2}", theirs / each, ours / each));
+        }
+        let most = ns.iter().fold(0.0f64, |a, b| a.max(*b));
+        let name = if mix.common { format!("**{}**", mix.name) } else { mix.name.clone() };
+        cells.resize(3, String::new());
+        println!("| {name} | {} | {:.2} |", cells.join(" | "), most / ns[0]);
+    }
+    println!("\nLeast ratio: {:.2} of the common mixes (bold), {:.2} of the others. Growth: the dearest size against 100 triangles, ours.\n", least[1], least[0]);
+}
+
+/// Nanoseconds of one pass over `again`, the Rust's and ours; both outputs are compared first.
+fn both(work: &Work, plan: &Plan) -> (f64, f64) {
+    raster::keep(work.last.max(1));
+    let mut theirs = Theirs::new(work);
+    let mut ours = Ours::new(work, 51 * work.last);
+    if work.last > 0 {
+        compare(work, &mut theirs, &mut ours);
+    }
+    let (mut t, mut o) = (f64::MAX, f64::MAX);
+    let times = [count(plan, |n| theirs.run(n)), count(plan, |n| ours.run(n))];
+    let mut start = f64::MAX;
+    for _ in 0..plan.rounds {
+        t = t.min(time(|| theirs.run(times[0])) / times[0] as f64);
+        start = start.min(time(|| ours.run(0)));
+        o = o.min(time(|| ours.run(times[1])));
+    }
+    (t, (o - start) / times[1] as f64)
+}
+
+/// Are the words of the last draw the same? Any NaN equals any.
+fn compare(work: &Work, theirs: &mut Theirs, ours: &mut Ours) {
+    theirs.run(1);
+    let words = theirs.words();
+    assert_eq!(words.len(), 51 * work.last, "the Rust drew another number of triangles");
+    for pass in 0..2 {
+        ours.out.fill(-7.5);
+        if pass == 0 {
+            ours.check();
+        } else {
+            ours.run(2);
+        }
+        for (i, (a, b)) in words.iter().zip(&ours.out).enumerate() {
+            let same = a.to_bits() == b.to_bits() || a.is_nan() && b.is_nan();
+            assert!(same, "word {i} of pass {pass}: {a} in the Rust, {b} here");
+        }
+    }
+}
+
+/// How often to repeat so that it takes one slice.
+fn count(plan: &Plan, mut work: impl FnMut(u32)) -> u32 {
+    let mut n = 1;
+    loop {
+        let spent = time(|| work(n));
+        if spent >= plan.slice.as_nanos() as f64 || n >= 1 << 24 {
+            return n;
+        }
+        n *= 2;
+    }
+}
+
+fn time(work: impl FnOnce()) -> f64 {
+    let start = Instant::now();
+    work();
+    start.elapsed().as_nanos() as f64
+}
+
+fn best(plan: &Plan, mut work: impl FnMut(u32)) -> f64 {
+    let n = count(plan, &mut work);
+    (0..plan.rounds).map(|_| time(|| work(n)) / n as f64).fold(f64::MAX, f64::min)
+}
+
+// ---- floors ----
+
+fn floors(plan: &Plan) {
+    println!("## Floors\n");
+    for size in [100, 10_000, 100_000] {
+        let from = vec![1.5f32; 51 * size];
+        let mut to = vec![0.0f32; 51 * size];
+        let ns = best(plan, |n| {
+            for _ in 0..n {
+                to.copy_from_slice(black_box(&from));
+                black_box(&mut to);
+            }
+        });
+        println!("- copying the output of {size} triangles: {:.2} ns a triangle", ns / size as f64);
+    }
+    println!("- copying a context of {CONTEXT} bytes in and out: {:.0} ns\n", context_copy(plan));
+}
+
+fn context_copy(plan: &Plan) -> f64 {
+    let mut from = vec![1u8; CONTEXT];
+    let mut to = vec![0u8; CONTEXT];
+    best(plan, |n| {
+        for _ in 0..n {
+            to.copy_from_slice(black_box(&from));
+            black_box(&mut to);
+            from.copy_from_slice(black_box(&to));
+            black_box(&mut from);
+        }
+    })
+}
+
+// ---- state calls ----
+
+fn states(plan: &Plan) {
+    let copy = context_copy(plan);
+    println!("## State calls, ns a call\n");
+    println!("| call | Rust | ours | copies of a context in and out |\n|---|---|---|---|");
+    let calls: [(&str, Vec<Call>); 6] = [
+        ("translate", vec![Call::Translate(0.0, 0.0, 0.0)]),
+        ("push, pop", vec![Call::Push, Call::Pop]),
+        ("bind_buffer", vec![Call::Bind(ARRAY, 1)]),
+        ("vertex_pointer", vec![Call::VertexPointer(3, FLOAT, 0, 4096)]),
+        ("color", vec![Call::Color([0.5, 0.5, 0.5, 1.0])]),
+        ("buffer_data of 4,096 bytes", vec![Call::Data(ARRAY, vec![7; 4096])]),
+    ];
+    for (name, again) in calls {
+        let each = again.len() as f64;
+        let mut first = mix::matrices();
+        first.push(Call::Bind(ARRAY, 1));
+        let work = Work { first, again, guest: vec![0; 16], triangles: 0, last: 0 };
+        let (theirs, ours) = both(&work, plan);
+        let (theirs, ours) = (theirs / each, ours / each);
+        println!("| {name} | {theirs:.1} | {ours:.1} | {:.2} |", ours / copy);
+    }
+}
