@@ -2,3 +2,4 @@
 pub mod Addresses
 pub mod Parts
 pub mod Widths
+pub mod Elements

@@ -3,7 +3,8 @@ use buffers::Buffers;
 use buffers::SLOT_BYTES;
 use buffers::SLOT_COUNT;
 ghost use mathlib.Core.Path.{_≡_};
-ghost use mathlib.Core.Bool.{cond};
+ghost use mathlib.Core.Bool.{Bool, cond};
+ghost use mathlib.Core.List.{List};
 ghost use lib.Dec.{eqb};
 ghost use Prim.Native.Nat.{ℕ, _+_, _-_, _*_, _^_, _<_, _≤_, min};
 ghost use lib.ListN.{length, take, drop};
@@ -11,6 +12,7 @@ ghost use Rattle.number.specs.Numbers.{le, signedAt};
 ghost use Rattle.buffers.specs.Objects.{slotCount, slotBytes, contentsOf, lenAt};
 ghost use Rattle.fetch.specs.Decode.{componentBytes, unsignedComponent, signedComponent, componentOf, component, vectorOf, OneTwoFour};
 ghost use Rattle.fetch.specs.Fetch.{freshArray, addressOf, fetched, inBuffer, inGuest, partOf, positionNumber, stateOf, isFound, bytesIn, sourceOf, Located};
+ghost use Rattle.fetch.specs.Sources.{sourceBytes, preparedFor, partIn, isAt, fetchedIn, isComponents, wordsOr};
 
 // Four components.
 pub struct Vec4 {
@@ -288,7 +290,7 @@ fn component_at(part: &[u8], ty: u32, size: u32, normalize: bool, i: u32, other:
 }
 
 // The four components of an element's bytes.
-fn vector(part: &[u8], ty: u32, size: u32, normalize: bool) -> Vec4
+fn vector_of(part: &[u8], ty: u32, size: u32, normalize: bool) -> Vec4
     requires { ⌜ (length (now part) ≡ componentBytes ty * size) × (0 < componentBytes ty) ⌝ }
     ensures { λ r. ⌜ r ≡ vectorOf ty size normalize (now (part .entry)) ⌝ }
 {
@@ -297,6 +299,26 @@ fn vector(part: &[u8], ty: u32, size: u32, normalize: bool) -> Vec4
     let z = component_at(part, ty, size, normalize, 2, 0.0);
     let w = component_at(part, ty, size, normalize, 3, 1.0);
     Vec4 { x, y, z, w }
+}
+
+// The same, with the type asked once: of a known type the components are decoded without asking again.
+fn vector(part: &[u8], ty: u32, size: u32, normalize: bool) -> Vec4
+    requires { ⌜ (length (now part) ≡ componentBytes ty * size) × (0 < componentBytes ty) ⌝ }
+    ensures { λ r. ⌜ r ≡ vectorOf ty size normalize (now (part .entry)) ⌝ }
+{
+    if ty == 0x1406 {
+        return vector_of(part, 0x1406, size, normalize);
+    }
+    if ty == 0x1402 {
+        return vector_of(part, 0x1402, size, normalize);
+    }
+    if ty == 0x1401 {
+        return vector_of(part, 0x1401, size, normalize);
+    }
+    if ty == 0x140C {
+        return vector_of(part, 0x140C, size, normalize);
+    }
+    vector_of(part, ty, size, normalize)
 }
 
 // Element `index` of an array.
@@ -411,5 +433,113 @@ pub fn position_number(f: Fetched) -> u32
         Fetched::Overflow => 9,
         Fetched::NoBuffer => 9,
         Fetched::Unreadable => 9,
+    }
+}
+
+// An array as a draw holds it: what is the same for every index. Its elements are parts of one slice, `source`, whose first byte has the address `low`; `known` is false where the array's buffer is absent.
+pub struct Prepared {
+    pub array: ArrayPointer,
+    pub known: bool,
+    pub low: u32,
+}
+
+// The bytes that an array's elements are parts of: the guest's with buffer 0, else the buffer's.
+pub fn source<'a>(b: Buffers, store: &'a [u8], guest: &'a [u8], buffer: u32) -> &'a [u8]
+    ensures { λ r. ⌜ now r ≡ sourceBytes (contentsOf (b .slots) (now (store .entry))) (now (guest .entry)) buffer ⌝ }
+{
+    if buffer == 0 {
+        return element(guest, guest, 0, 0, guest.len());
+    }
+    let k = buffers::find_slot(b, buffer);
+    if SLOT_COUNT <= k {
+        return &store[0..0];
+    }
+    let held = bytes_in_slot(b, store.len(), k);
+    if held == 0 {
+        return &store[0..0];
+    }
+    element(store, store, 0, SLOT_BYTES * k, held)
+}
+
+pub fn prepare(b: Buffers, base: u32, array: ArrayPointer) -> Prepared
+    ensures { λ r. ⌜ ((s : List ℕ) → r ≡ preparedFor (contentsOf (b .slots) s) base array) ⌝ }
+{
+    if array.buffer == 0 {
+        return Prepared {
+            array,
+            known: true,
+            low: base,
+        };
+    }
+    let known = buffers::find_slot(b, array.buffer) < SLOT_COUNT;
+    Prepared {
+        array,
+        known,
+        low: 0,
+    }
+}
+
+// Where the bytes of an element lie in its array's source.
+fn find_element(e: Prepared, bytes: &[u8], address: u32, len: usize) -> Place
+    ensures { λ r. ⌜ Located (partIn e (now (bytes .entry)) address len) (now (bytes .entry)) len r ⌝ }
+{
+    if !e.known {
+        return Place::NoBuffer;
+    }
+    find_in_guest(e.low, bytes, address, len)
+}
+
+// Whether the bytes are there.
+fn is_at(place: Place) -> bool
+    ensures { λ r. ⌜ r ≡ isAt place ⌝ }
+{
+    match place {
+        Place::At(_at) => true,
+        Place::NoBuffer => false,
+        Place::Unreadable => false,
+    }
+}
+
+// Whether element `index` can be fetched.
+pub fn is_fetched(e: Prepared, bytes: &[u8], index: u32) -> bool
+    ensures { λ r. ⌜ ((normalize : Bool) → r ≡ isComponents (fetchedIn e (now (bytes .entry)) index normalize)) ⌝ }
+{
+    let array = e.array;
+    let found = address_of(array, index);
+    match found {
+        Address::UnknownType => false,
+        Address::Overflow => false,
+        Address::At(address, n) => { is_at(find_element(e, bytes, address, n as usize)) }
+    }
+}
+
+// The components of element `index`, or others where it cannot be fetched.
+pub fn element_or(
+    e: Prepared,
+    bytes: &[u8],
+    index: u32,
+    normalize: bool,
+    other: [f32; 4],
+) -> [f32; 4]
+    ensures { λ r. ⌜ r ≡ wordsOr (fetchedIn e (now (bytes .entry)) index normalize) other ⌝ }
+{
+    let array = e.array;
+    let found = address_of(array, index);
+    match found {
+        Address::UnknownType => other,
+        Address::Overflow => other,
+        Address::At(address, n) => {
+            let len = n as usize;
+            let place = find_element(e, bytes, address, len);
+            match place {
+                Place::NoBuffer => other,
+                Place::Unreadable => other,
+                Place::At(at) => {
+                    let part = element(bytes, bytes, 0, at, len);
+                    let v = vector(part, array.ty, array.size, normalize);
+                    [v.x, v.y, v.z, v.w]
+                }
+            }
+        }
     }
 }

@@ -1,0 +1,88 @@
+-- `fetch::element_or` meets its contract: the address, then the place, then the components.
+use mathlib.Core.Path.{_≡_, sym, ap, _∙_}
+use lib.ListN.{length}
+use Rattle.fetch.specs.Decode.{vectorOf}
+use Rattle.fetch.specs.Sources.{fetchedIn}
+use Rattle.fetch.proofs.Addresses.{address-length}
+use Rattle.fetch.proofs.Parts.{part-length}
+use Rattle.fetch.proofs.Elements.{words-are}
+use borrow.Author.Needs.{needs}
+use Rattle.fetch.proofs.element_or.Statement.{statement}
+use Rattle.fetch.proofs.element_or.Tie as tie
+
+address-of-requires : tie.Need-address-of-requires
+address-of-requires c κs = search needs
+
+enum-told : tie.Need-enum-told
+enum-told c = search needs
+
+enum-told-2 : tie.Need-enum-told-2
+enum-told-2 c = search needs
+
+enum-known-found : tie.Need-enum-known-found
+enum-known-found c = search needs
+
+cast-len : tie.Need-cast-len
+cast-len c = search needs
+
+find-element-requires : tie.Need-find-element-requires
+find-element-requires c κs = search needs
+
+enum-told-3 : tie.Need-enum-told-3
+enum-told-3 c = search needs
+
+enum-told-4 : tie.Need-enum-told-4
+enum-told-4 c = search needs
+
+enum-known-place : tie.Need-enum-known-place
+enum-known-place c = search needs
+
+element-requires : tie.Need-element-requires
+element-requires c κs = (rw (c .before .place .given .1) at (c .before .before .before .find-element .ensures)) .0
+
+vector-requires : tie.Need-vector-requires
+vector-requires c κs =
+    let start = c .before .before .before .before .before .before .before .before .before .before .before in
+    let l = address-length (start .args .e .array) (start .args .index) _ _ (sym (c .before .before .before .before .before .before .before .before .address-of .ensures) ∙ c .before .before .before .before .before .before .found .given .1) in
+    (ap length (c .element .ensures) ∙ part-length _ _ _ ((rw (c .before .before .place .given .1) at (c .before .before .before .before .find-element .ensures)) .0) ∙ l .0, l .1)
+
+returns : tie.Need-returns
+unfolding fetchedIn
+returns c = rw (sym (c .before .before .address-of .ensures) ∙ c .enum-told .given .1)
+
+returns-2 : tie.Need-returns-2
+unfolding fetchedIn
+returns-2 c = rw (sym (c .before .before .address-of .ensures) ∙ c .enum-told2 .given .1)
+
+returns-3 : tie.Need-returns-3
+unfolding fetchedIn
+returns-3 c = rw (sym (c .before .before .before .before .before .before .address-of .ensures) ∙ c .before .before .before .before .found .given .1, rw (c .enum-told3 .given .1) at (c .before .before .find-element .ensures))
+
+returns-4 : tie.Need-returns-4
+unfolding fetchedIn
+returns-4 c = rw (sym (c .before .before .before .before .before .before .address-of .ensures) ∙ c .before .before .before .before .found .given .1, rw (c .enum-told4 .given .1) at (c .before .before .find-element .ensures))
+
+returns-5 : tie.Need-returns-5
+unfolding fetchedIn
+returns-5 c = rw (sym (c .before .before .before .before .before .before .before .before .before .address-of .ensures) ∙ c .before .before .before .before .before .before .before .found .given .1, (rw (c .before .before .before .place .given .1) at (c .before .before .before .before .before .find-element .ensures)) .1) (words-are (c .vector .ensures ∙ ap (vectorOf _ _ _) (c .before .element .ensures)))
+
+pub element-or-spec : {M : Type 1} → statement M
+element-or-spec =
+    tie.close
+    (tie.spec
+    address-of-requires
+    enum-told
+    enum-told-2
+    enum-known-found
+    cast-len
+    find-element-requires
+    enum-told-3
+    enum-told-4
+    enum-known-place
+    element-requires
+    vector-requires
+    returns
+    returns-2
+    returns-3
+    returns-4
+    returns-5)
