@@ -1,6 +1,7 @@
 pub mod IndexLists
-pub mod Vertices
 pub mod Laws
 pub mod Drawing
 pub mod Sources
 pub mod Counts
+pub mod Plans
+pub mod CornerLists

@@ -6,18 +6,21 @@ use buffers::Buffers;
 use fetch::ArrayPointer;
 use fetch::Fetched;
 use fetch::PartState;
+use fetch::Prepared;
 ghost use mathlib.Core.Path.{_≡_};
 ghost use mathlib.Core.Bool.{true, false, cond, not};
+ghost use mathlib.Core.List.{List};
 ghost use Prim.Native.Nat.{ℕ, _+_, _-_, _*_, _/_, _%_, _<_, _≤_, min};
 ghost use lib.Dec.{eqb};
-ghost use lib.ListN.{length, getD};
+ghost use lib.ListN.{length, getD, take, drop};
 ghost use lib.Seq.{sets};
 ghost use Rattle.buffers.specs.Bounded.{first};
-ghost use Rattle.arrays.specs.Attributes.{noPair};
+ghost use Rattle.buffers.specs.Objects.{contentsOf};
 ghost use Rattle.draw.specs.Scene.{Source, sceneIn};
 ghost use Rattle.draw.specs.Index.{upFrom, numbers, indexWidth, indexList};
-ghost use Rattle.draw.specs.Vertex.{componentsOr, objectPosition, colorOf, hasStage, transformedPair, stagePair, pairOf, positionOf, vertexOf, four, vertexWords};
-ghost use Rattle.draw.specs.Triangles.{triangleCount, cornersOf, threeWords, trianglesTo, wordsOf};
+ghost use Rattle.draw.specs.Vertex.{transformedPair, positionOf, four, vertexWords};
+ghost use Rattle.draw.specs.Triangles.{triangleCount, cornersOf, trianglesTo, wordsOf};
+ghost use Rattle.draw.specs.Plan.{colorIn, pairIn, pairsIn, planOf, sources, vertexIn, cornerPlace, cornerIndex, cornerWords, Stands};
 ghost use Rattle.draw.specs.Draw.{primitiveOf, vertexAt, trianglesOf, positionAt, fails, hasVertices, listNumber, elementsNumber, viewNumber, answered, drawIn, Draws, stateNumber};
 
 // Where the indices of a draw come from: the borrowed list; from a number up to another, the end left out; bytes or little-endian shorts of the borrowed element bytes.
@@ -114,19 +117,6 @@ fn index_at(kind: Indices, list: &[u32], elements: &[u8], i: usize) -> u32
     }
 }
 
-// The components that a fetch answers, or others where it fails.
-fn components_or(f: Fetched, other: [f32; 4]) -> [f32; 4]
-    ensures { λ r. ⌜ r ≡ componentsOr f other ⌝ }
-{
-    match f {
-        Fetched::Components(v) => [v.x, v.y, v.z, v.w],
-        Fetched::UnknownType => other,
-        Fetched::Overflow => other,
-        Fetched::NoBuffer => other,
-        Fetched::Unreadable => other,
-    }
-}
-
 fn fetch_position<'a>(s: Scene, store: &'a [u8], guest: &'a [u8], index: u32) -> Fetched
     ensures { λ r. ⌜ r ≡ positionOf (sceneIn s (now (store .entry)) (now (guest .entry))) index ⌝ }
 {
@@ -135,17 +125,12 @@ fn fetch_position<'a>(s: Scene, store: &'a [u8], guest: &'a [u8], index: u32) ->
     fetch::fetch(buffers, store, s.base, guest, a, index, false)
 }
 
-fn color_of<'a>(s: Scene, store: &'a [u8], guest: &'a [u8], index: u32) -> [f32; 4]
-    ensures { λ r. ⌜ r ≡ colorOf (sceneIn s (now (store .entry)) (now (guest .entry))) index ⌝ }
+// The colour of an index: the array's where it is enabled, else the current one.
+fn color_at(e: Prepared, bytes: &[u8], index: u32, current: [f32; 4]) -> [f32; 4]
+    ensures { λ r. ⌜ r ≡ colorIn e (now (bytes .entry)) index current ⌝ }
 {
-    let current = s.attributes.color;
-    let a = s.arrays.color;
-    if a.enabled {
-        let buffers = s.buffers;
-        return components_or(
-            fetch::fetch(buffers, store, s.base, guest, a, index, true),
-            current,
-        );
+    if e.array.enabled {
+        return fetch::element_or(e, bytes, index, true, current);
     }
     current
 }
@@ -166,60 +151,115 @@ fn transform_pair(m: [f32; 16], v: [f32; 4]) -> Pair
     Pair { s: t[0], t: t[1] }
 }
 
-// The pair of a unit that has a stage.
-fn stage_pair<'a>(s: Scene, store: &'a [u8], guest: &'a [u8], index: u32, unit: usize) -> Pair
-    ensures { λ r. ⌜ r ≡ stagePair (sceneIn s (now (store .entry)) (now (guest .entry))) index unit ⌝ }
+// The pair of a unit, where `on` says whether it has a stage.
+fn pair_at(e: Prepared, m: [f32; 16], bytes: &[u8], index: u32, on: bool, current: Pair) -> Pair
+    ensures { λ r. ⌜ r ≡ pairIn e m (now (bytes .entry)) index on current ⌝ }
 {
-    let arrays = s.arrays;
-    let a = arrays::unit_array(arrays, unit);
-    if a.enabled {
-        let buffers = s.buffers;
-        let texture = s.texture;
-        let v = components_or(
-            fetch::fetch(buffers, store, s.base, guest, a, index, false),
-            [0.0, 0.0, 0.0, 1.0],
-        );
-        return transform_pair(texture, v);
+    if !on {
+        return Pair { s: 0.0, t: 0.0 };
     }
-    let attributes = s.attributes;
-    arrays::unit_pair(attributes, unit)
+    if e.array.enabled {
+        let v = fetch::element_or(e, bytes, index, false, [0.0, 0.0, 0.0, 1.0]);
+        return transform_pair(m, v);
+    }
+    current
 }
 
-fn pair_of<'a>(
-    s: Scene,
-    store: &'a [u8],
-    guest: &'a [u8],
-    index: u32,
-    unit: usize,
-    on: bool,
-) -> Pair
-    ensures { λ r. ⌜ r ≡ cond on (stagePair (sceneIn s (now (store .entry)) (now (guest .entry))) index unit) noPair ⌝ }
+// What a vertex is made from, with the source of each array found: once a draw.
+struct Plan {
+    transform: [f32; 16],
+    modelview: [f32; 16],
+    texture: [f32; 16],
+    position: Prepared,
+    color: Prepared,
+    unit0: Prepared,
+    unit1: Prepared,
+    unit2: Prepared,
+    unit3: Prepared,
+    attributes: Attributes,
+    stages: u32,
+}
+
+fn plan_of(s: Scene) -> Plan
+    ensures { λ r. ⌜ ((store : List ℕ) → r ≡ planOf s (contentsOf (s .buffers .slots) store)) ⌝ }
 {
-    if on {
-        return stage_pair(s, store, guest, index, unit);
+    let b = s.buffers;
+    let arrays = s.arrays;
+    let base = s.base;
+    let position = fetch::prepare(b, base, arrays.vertex);
+    let color = fetch::prepare(b, base, arrays.color);
+    let unit0 = fetch::prepare(b, base, arrays::unit_array(arrays, 0));
+    let unit1 = fetch::prepare(b, base, arrays::unit_array(arrays, 1));
+    let unit2 = fetch::prepare(b, base, arrays::unit_array(arrays, 2));
+    let unit3 = fetch::prepare(b, base, arrays::unit_array(arrays, 3));
+    let transform = s.transform;
+    let modelview = s.modelview;
+    let texture = s.texture;
+    let attributes = s.attributes;
+    Plan {
+        transform,
+        modelview,
+        texture,
+        position,
+        color,
+        unit0,
+        unit1,
+        unit2,
+        unit3,
+        attributes,
+        stages: s.stages,
     }
-    Pair { s: 0.0, t: 0.0 }
+}
+
+// The four pairs of an index, by unit.
+fn pairs_at(p: Plan, b0: &[u8], b1: &[u8], b2: &[u8], b3: &[u8], index: u32) -> [f32; 8]
+    ensures { λ r. ⌜ r ≡ pairsIn p (now (b0 .entry)) (now (b1 .entry)) (now (b2 .entry)) (now (b3 .entry)) index ⌝ }
+{
+    let m = p.texture;
+    let stages = p.stages;
+    let attributes = p.attributes;
+    let e0 = p.unit0;
+    let e1 = p.unit1;
+    let e2 = p.unit2;
+    let e3 = p.unit3;
+    let c0 = arrays::unit_pair(attributes, 0);
+    let c1 = arrays::unit_pair(attributes, 1);
+    let c2 = arrays::unit_pair(attributes, 2);
+    let c3 = arrays::unit_pair(attributes, 3);
+    let t0 = pair_at(e0, m, b0, index, has_stage(stages, 1), c0);
+    let t1 = pair_at(e1, m, b1, index, has_stage(stages, 2), c1);
+    let t2 = pair_at(e2, m, b2, index, has_stage(stages, 4), c2);
+    let t3 = pair_at(e3, m, b3, index, has_stage(stages, 8), c3);
+    [t0.s, t0.t, t1.s, t1.t, t2.s, t2.t, t3.s, t3.t]
 }
 
 // The vertex of an index; a position that cannot be fetched counts as 0, 0, 0, 1.
-pub fn assemble<'a>(s: Scene, store: &'a [u8], guest: &'a [u8], index: u32) -> Vertex
-    ensures { λ r. ⌜ r ≡ vertexOf (sceneIn s (now (store .entry)) (now (guest .entry))) index ⌝ }
+fn assemble(
+    p: Plan,
+    positions: &[u8],
+    colors: &[u8],
+    b0: &[u8],
+    b1: &[u8],
+    b2: &[u8],
+    b3: &[u8],
+    index: u32,
+) -> Vertex
+    ensures { λ r. ⌜ r ≡ vertexIn p (sources (now (positions .entry)) (now (colors .entry)) (now (b0 .entry)) (now (b1 .entry)) (now (b2 .entry)) (now (b3 .entry))) index ⌝ }
 {
-    let p = components_or(fetch_position(s, store, guest, index), [0.0, 0.0, 0.0, 1.0]);
-    let transform = s.transform;
-    let modelview = s.modelview;
-    let position = matrix::transform(transform, p);
-    let eye = matrix::transform(modelview, p);
-    let color = color_of(s, store, guest, index);
-    let stages = s.stages;
-    let t0 = pair_of(s, store, guest, index, 0, has_stage(stages, 1));
-    let t1 = pair_of(s, store, guest, index, 1, has_stage(stages, 2));
-    let t2 = pair_of(s, store, guest, index, 2, has_stage(stages, 4));
-    let t3 = pair_of(s, store, guest, index, 3, has_stage(stages, 8));
+    let e = p.position;
+    let o = fetch::element_or(e, positions, index, false, [0.0, 0.0, 0.0, 1.0]);
+    let transform = p.transform;
+    let modelview = p.modelview;
+    let position = matrix::transform(transform, o);
+    let eye = matrix::transform(modelview, o);
+    let current = p.attributes.color;
+    let ce = p.color;
+    let color = color_at(ce, colors, index, current);
+    let texcoords = pairs_at(p, b0, b1, b2, b3, index);
     Vertex {
         position,
         color,
-        texcoords: [t0.s, t0.t, t1.s, t1.t, t2.s, t2.t, t3.s, t3.t],
+        texcoords,
         fog: number::abs(eye[2]),
     }
 }
@@ -252,33 +292,20 @@ fn first_failing<'a>(
 ) -> usize
     ensures { λ r. ⌜ r ≡ first n (fails (sceneIn s (now (store .entry)) (now (guest .entry))) (indexList kind (now (list .entry)) (now (elements .entry)))) ⌝ }
 {
+    let a = s.arrays.vertex;
+    let b = s.buffers;
+    let e = fetch::prepare(b, s.base, a);
+    let bytes = fetch::source(b, store, guest, a.buffer);
     let mut i = 0;
     loop {
         if n <= i {
             break i;
         }
-        let number = position_number_at(s, store, guest, kind, list, elements, i);
-        if number != 0 {
+        if !fetch::is_fetched(e, bytes, index_at(kind, list, elements, i)) {
             break i;
         }
         i += 1;
     }
-}
-
-// The vertex at a place of the index list.
-fn vertex_at<'a>(
-    s: Scene,
-    store: &'a [u8],
-    guest: &'a [u8],
-    kind: Indices,
-    list: &[u32],
-    elements: &[u8],
-    place: usize,
-) -> Vertex
-    ensures { λ r. ⌜ r ≡ vertexAt (sceneIn s (now (store .entry)) (now (guest .entry))) (indexList kind (now (list .entry)) (now (elements .entry))) place ⌝ }
-{
-    let index = index_at(kind, list, elements, place);
-    assemble(s, store, guest, index)
 }
 
 fn put4(out: &mut [f32], at: usize, a: [f32; 4])
@@ -306,16 +333,6 @@ fn write_vertex(out: &mut [f32], at: usize, v: Vertex)
     put4(out, at + 8, [t[0], t[1], t[2], t[3]]);
     put4(out, at + 12, [t[4], t[5], t[6], t[7]]);
     out[at + 16] = v.fog;
-}
-
-// Writes three vertices, one after the other.
-fn write_three(out: &mut [f32], at: usize, a: Vertex, b: Vertex, c: Vertex)
-    requires { ⌜ at + 51 ≤ length (now out) ⌝ }
-    ensures { λ _. ⌜ now (out .exit) ≡ sets (now (out .entry)) at (threeWords a b c) ⌝ }
-{
-    write_vertex(out, at, a);
-    write_vertex(out, at + 17, b);
-    write_vertex(out, at + 34, c);
 }
 
 fn corners_of(p: Primitive, t: usize) -> Corners
@@ -351,6 +368,145 @@ fn corners_of(p: Primitive, t: usize) -> Corners
     }
 }
 
+// The place in the index list of a corner, the corners of all triangles numbered from 0.
+fn corner_place(p: Primitive, c: usize) -> usize
+    requires { ⌜ c < 0x4000_0000_0000_0000 ⌝ }
+    ensures { λ r. ⌜ r ≡ cornerPlace p c ⌝ }
+{
+    if let Primitive::Triangles = p {
+        return c;
+    }
+    let k = corners_of(p, c / 3);
+    if c % 3 == 0 {
+        return k.a;
+    }
+    if c % 3 == 1 {
+        return k.b;
+    }
+    k.c
+}
+
+// The index of a corner.
+fn corner_index(p: Primitive, kind: Indices, list: &[u32], elements: &[u8], c: usize) -> u32
+    requires { ⌜ c < 0x4000_0000_0000_0000 ⌝ }
+    ensures { λ r. ⌜ r ≡ cornerIndex p (indexList kind (now (list .entry)) (now (elements .entry))) c ⌝ }
+{
+    index_at(kind, list, elements, corner_place(p, c))
+}
+
+// The vertex whose 17 f32 stand in the output.
+fn read_vertex(out: &[f32], at: usize) -> Vertex
+    requires { ⌜ at + 17 ≤ length (now out) ⌝ }
+    ensures { λ r. ⌜ vertexWords r ≡ take 17 (drop at (now (out .entry))) ⌝ }
+{
+    let fog = out[at + 16];
+    Vertex {
+        position: [out[at], out[at + 1], out[at + 2], out[at + 3]],
+        color: [out[at + 4], out[at + 5], out[at + 6], out[at + 7]],
+        texcoords: [
+            out[at + 8],
+            out[at + 9],
+            out[at + 10],
+            out[at + 11],
+            out[at + 12],
+            out[at + 13],
+            out[at + 14],
+            out[at + 15],
+        ],
+        fog,
+    }
+}
+
+// The vertex of corner c. Where `candidate` is an earlier corner with the same index, its f32 are read again from the output.
+fn corner_vertex(
+    plan: Plan,
+    positions: &[u8],
+    colors: &[u8],
+    b0: &[u8],
+    b1: &[u8],
+    b2: &[u8],
+    b3: &[u8],
+    p: Primitive,
+    kind: Indices,
+    list: &[u32],
+    elements: &[u8],
+    c: usize,
+    index: u32,
+    candidate: usize,
+    out: &[f32],
+) -> Vertex
+    requires { ⌜ c < 0x4000_0000_0000_0000 ⌝ }
+    requires { ⌜ Stands (λ q. vertexIn plan (sources (now positions) (now colors) (now b0) (now b1) (now b2) (now b3)) (cornerIndex p (indexList kind (now list) (now elements)) q)) c (now out) ⌝ }
+    ensures { λ r. ⌜ vertexWords r ≡ vertexWords (vertexIn plan (sources (now (positions .entry)) (now (colors .entry)) (now (b0 .entry)) (now (b1 .entry)) (now (b2 .entry)) (now (b3 .entry))) index) ⌝ }
+{
+    if candidate < c {
+        if corner_index(p, kind, list, elements, candidate) == index {
+            return read_vertex(out, 17 * candidate);
+        }
+    }
+    assemble(plan, positions, colors, b0, b1, b2, b3, index)
+}
+
+// A table of corners by their index: a hint, which is asked before it is used.
+const TABLE: usize = 256;
+
+fn recalled(table: &[usize; TABLE], index: u32) -> usize {
+    let slot = (index % 256) as usize;
+    table[slot]
+}
+
+fn remember(table: &mut [usize; TABLE], index: u32, c: usize) {
+    let slot = (index % 256) as usize;
+    table[slot] = c;
+}
+
+// Writes the first n corners.
+fn write_corners(
+    plan: Plan,
+    positions: &[u8],
+    colors: &[u8],
+    b0: &[u8],
+    b1: &[u8],
+    b2: &[u8],
+    b3: &[u8],
+    p: Primitive,
+    kind: Indices,
+    list: &[u32],
+    elements: &[u8],
+    n: usize,
+    out: &mut [f32],
+)
+    requires { ⌜ 17 * n ≤ length (now out) ⌝ }
+    ensures { λ _. ⌜ now (out .exit) ≡ sets (now (out .entry)) 0 (cornerWords (λ q. vertexIn plan (sources (now (positions .entry)) (now (colors .entry)) (now (b0 .entry)) (now (b1 .entry)) (now (b2 .entry)) (now (b3 .entry))) (cornerIndex p (indexList kind (now (list .entry)) (now (elements .entry))) q)) n) ⌝ }
+{
+    let mut table = [0usize; TABLE];
+    let mut c = 0;
+    while c < n {
+        let index = corner_index(p, kind, list, elements, c);
+        let candidate = recalled(&table, index);
+        let v = corner_vertex(
+            plan,
+            positions,
+            colors,
+            b0,
+            b1,
+            b2,
+            b3,
+            p,
+            kind,
+            list,
+            elements,
+            c,
+            index,
+            candidate,
+            &out[..],
+        );
+        remember(&mut table, index, c);
+        write_vertex(out, 17 * c, v);
+        c += 1;
+    }
+}
+
 // Writes the first `count` triangles.
 fn write_triangles<'a>(
     s: Scene,
@@ -366,15 +522,29 @@ fn write_triangles<'a>(
     requires { ⌜ 51 * count ≤ length (now out) ⌝ }
     ensures { λ _. ⌜ now (out .exit) ≡ sets (now (out .entry)) 0 (wordsOf (trianglesTo (vertexAt (sceneIn s (now (store .entry)) (now (guest .entry))) (indexList kind (now (list .entry)) (now (elements .entry)))) p count)) ⌝ }
 {
-    let mut t = 0;
-    while t < count {
-        let k = corners_of(p, t);
-        let a = vertex_at(s, store, guest, kind, list, elements, k.a);
-        let b = vertex_at(s, store, guest, kind, list, elements, k.b);
-        let c = vertex_at(s, store, guest, kind, list, elements, k.c);
-        write_three(out, 51 * t, a, b, c);
-        t += 1;
-    }
+    let plan = plan_of(s);
+    let b = s.buffers;
+    let positions = fetch::source(b, store, guest, plan.position.array.buffer);
+    let colors = fetch::source(b, store, guest, plan.color.array.buffer);
+    let b0 = fetch::source(b, store, guest, plan.unit0.array.buffer);
+    let b1 = fetch::source(b, store, guest, plan.unit1.array.buffer);
+    let b2 = fetch::source(b, store, guest, plan.unit2.array.buffer);
+    let b3 = fetch::source(b, store, guest, plan.unit3.array.buffer);
+    write_corners(
+        plan,
+        positions,
+        colors,
+        b0,
+        b1,
+        b2,
+        b3,
+        p,
+        kind,
+        list,
+        elements,
+        3 * count,
+        out,
+    );
 }
 
 // How many triangles n indices make.

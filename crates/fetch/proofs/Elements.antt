@@ -1,5 +1,5 @@
 -- A fetch from an array's own source is the fetch. Assumes nothing.
-use Prim.Native.Nat.{ℕ, _-_, _+_, _*_, _<_, _≤_, min}
+use Prim.Native.Nat.{ℕ, _-_, _*_, _<_, _≤_, min}
 use mathlib.Core.Bool.{Bool, true, false, cond, _||_}
 use mathlib.Core.List.{List, [], _∷_}
 use mathlib.Core.Option.{Option, some, none, Option·getD}
@@ -14,7 +14,7 @@ use lib.Seq.{take-all, take-length}
 use Rattle.buffers.specs.Objects.{contentsOf, slotOf, lenAt, bytesAt}
 use Rattle.buffers.specs.declared.Slot.{Slot}
 use Rattle.buffers.proofs.Slots.{slot-unknown, contents-none, contents-some}
-use Rattle.fetch.specs.Fetch.{addressOf, Part, bytes, noBuffer, unreadable, inGuest, inBuffer, partOf, decoded, fetchedAt, fetched, Located}
+use Rattle.fetch.specs.Fetch.{addressOf, bytes, noBuffer, inGuest, inBuffer, partOf, decoded, fetchedAt, fetched, Located}
 use Rattle.fetch.specs.Sources.{isSome, preparedFor, sourceBytes, partIn, isAt, fetchedFrom, fetchedIn, isComponents}
 use Rattle.fetch.specs.declared.ArrayPointer.{ArrayPointer}
 use Rattle.fetch.specs.declared.Address.{Address}

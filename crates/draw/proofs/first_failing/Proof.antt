@@ -1,50 +1,45 @@
--- `draw::first_failing` meets its contract: the places before i are passed.
+-- `draw::first_failing` meets its contract: no place before i fails.
 use Prim.Native.Nat.{ℕ, _-_, _≤_}
-use mathlib.Core.Bool.{Bool, not}
+use mathlib.Core.Bool.{Bool, false, not}
 use mathlib.Core.Path.{_≡_, sym, ap, _∙_}
 use native.Mathlib.Nat.{sub-zero}
 use native.Mathlib.Omega.{arith}
 use borrow.Author.Needs.{needs}
-use borrow.Author.Tests.{eq-eqb, ne-eqb}
+use borrow.Author.Tests.{not-true, not-false}
 use denote.Ref.{now}
-use lib.Dec.{eqb}
 use Rattle.buffers.specs.Bounded.{first, firstFrom}
-use Rattle.draw.specs.Scene.{sceneIn}
+use Rattle.fetch.specs.Sources.{fetchedIn, isComponents}
 use Rattle.draw.specs.Index.{indexList}
-use Rattle.draw.specs.Draw.{fails}
 use Rattle.draw.proofs.Laws.{first-pass, first-found, first-none}
+use Rattle.draw.proofs.Plans.{missing, fails-are}
 use Rattle.draw.proofs.first_failing.Statement.{statement}
 use Rattle.draw.proofs.first_failing.Tie as tie
 
 abbrev Inv-loop : tie.InvT-loop
-Inv-loop s store guest kind list elements n i₀ i = (i ≤ n) × (firstFrom (fails (sceneIn s store guest) (indexList kind list elements)) i (n - i) ≡ firstFrom (fails (sceneIn s store guest) (indexList kind list elements)) 0 n)
+Inv-loop store guest kind list elements n e bytes i₀ i = (i ≤ n) × (firstFrom (missing e bytes (indexList kind list elements)) i (n - i) ≡ firstFrom (missing e bytes (indexList kind list elements)) 0 n)
 
 abbrev μ-loop : tie.MeasureT-loop
-μ-loop s store guest kind list elements n i₀ i = n - i
-
--- whether the position at a place cannot be fetched
-abbrev Fails : tie.Start Inv-loop μ-loop → ℕ → Bool
-Fails c = let args = c .args in fails (sceneIn (args .s) (now (args .store)) (now (args .guest))) (indexList (args .kind) (now (args .list)) (now (args .elements)))
+μ-loop store guest kind list elements n e bytes i₀ i = n - i
 
 loop-holds : tie.Need-loop-holds Inv-loop μ-loop
 loop-holds c = (search needs, rw sub-zero)
 
 loop-again : tie.Need-loop-again Inv-loop μ-loop
 loop-again c = (
-  omega (arith, c .before .before .if1 .left),
-  first-pass (Fails (c .before .before .before .before .before .before .before .before)) _ _ (c .before .before .if1 .left) (ap (λ (k : ℕ). not (eqb k 0)) (sym (c .before .position-number-at .ensures)) ∙ rw (eq-eqb _ 0 (c .if2 .left)))
-      ∙ c .before .before .before .loop .inv .1,
+  omega (arith, c .before .before .before .if1 .left),
+  first-pass (missing (c .before .before .before .before .before .before .prepare .result) (now (c .before .before .before .before .before .source .result)) (indexList (c .before .before .before .before .before .before .before .before .before .before .before .before .before .args .kind) (now (c .before .before .before .before .before .before .before .before .before .before .before .before .before .args .list)) (now (c .before .before .before .before .before .before .before .before .before .before .before .before .before .args .elements)))) _ _ (c .before .before .before .if1 .left) (sym (λ j. not (isComponents (fetchedIn (c .before .before .before .before .before .before .prepare .result) (now (c .before .before .before .before .before .source .result)) (c .before .before .index-at .ensures j) false))) ∙ ap not (sym (c .before .is-fetched .ensures false)) ∙ ap not (not-false (c .before .is-fetched .result) (c .if2 .left)))
+      ∙ c .before .before .before .before .loop .inv .1,
 )
 
 returns : tie.Need-returns Inv-loop μ-loop
 unfolding first
-returns c = sym (first-none _ _ _ (c .if1 .taken)) ∙ c .before .loop .inv .1
+returns c = sym (first-none (missing (c .before .before .before .prepare .result) (now (c .before .before .source .result)) (indexList (c .before .before .before .before .before .before .before .before .before .before .args .kind) (now (c .before .before .before .before .before .before .before .before .before .before .args .list)) (now (c .before .before .before .before .before .before .before .before .before .before .args .elements)))) _ _ (c .if1 .taken)) ∙ c .before .loop .inv .1 ∙ ap (λ (f : ℕ → Bool). firstFrom f 0 (c .before .before .before .before .before .before .before .before .before .before .args .n)) (fails-are (c .before .before .before .before .before .before .before .before .before .before .args .s) (now (c .before .before .before .before .before .before .before .before .before .before .args .store)) (now (c .before .before .before .before .before .before .before .before .before .before .args .guest)) (indexList (c .before .before .before .before .before .before .before .before .before .before .args .kind) (now (c .before .before .before .before .before .before .before .before .before .before .args .list)) (now (c .before .before .before .before .before .before .before .before .before .before .args .elements))) (c .before .before .before .prepare .ensures (now (c .before .before .before .before .before .before .before .before .before .before .args .store))) (c .before .before .source .ensures))
 
 returns-2 : tie.Need-returns-2 Inv-loop μ-loop
 unfolding first
 returns-2 c =
-    sym (first-found (Fails (c .before .before .before .before .before .before .before .before)) _ _ (c .before .before .if1 .left) (ap (λ (k : ℕ). not (eqb k 0)) (sym (c .before .position-number-at .ensures)) ∙ rw (ne-eqb _ 0 (c .if2 .taken))))
-    ∙ c .before .before .before .loop .inv .1
+    sym (first-found (missing (c .before .before .before .before .before .before .prepare .result) (now (c .before .before .before .before .before .source .result)) (indexList (c .before .before .before .before .before .before .before .before .before .before .before .before .before .args .kind) (now (c .before .before .before .before .before .before .before .before .before .before .before .before .before .args .list)) (now (c .before .before .before .before .before .before .before .before .before .before .before .before .before .args .elements)))) _ _ (c .before .before .before .if1 .left) (sym (λ j. not (isComponents (fetchedIn (c .before .before .before .before .before .before .prepare .result) (now (c .before .before .before .before .before .source .result)) (c .before .before .index-at .ensures j) false))) ∙ ap not (sym (c .before .is-fetched .ensures false)) ∙ ap not (not-true (c .before .is-fetched .result) (c .if2 .taken))))
+    ∙ c .before .before .before .before .loop .inv .1 ∙ ap (λ (f : ℕ → Bool). firstFrom f 0 (c .before .before .before .before .before .before .before .before .before .before .before .before .before .args .n)) (fails-are (c .before .before .before .before .before .before .before .before .before .before .before .before .before .args .s) (now (c .before .before .before .before .before .before .before .before .before .before .before .before .before .args .store)) (now (c .before .before .before .before .before .before .before .before .before .before .before .before .before .args .guest)) (indexList (c .before .before .before .before .before .before .before .before .before .before .before .before .before .args .kind) (now (c .before .before .before .before .before .before .before .before .before .before .before .before .before .args .list)) (now (c .before .before .before .before .before .before .before .before .before .before .before .before .before .args .elements))) (c .before .before .before .before .before .before .prepare .ensures (now (c .before .before .before .before .before .before .before .before .before .before .before .before .before .args .store))) (c .before .before .before .before .before .source .ensures))
 
 pub first-failing-spec : {M : Type 1} → statement M
 first-failing-spec =
@@ -52,7 +47,10 @@ first-failing-spec =
     (tie.spec
     Inv-loop
     μ-loop
+    (λ c κs. search needs)
+    (λ c κs. search needs)
     loop-holds
+    (λ c κs. search needs)
     (λ c κs. search needs)
     (λ c. search needs)
     (λ c. search needs)

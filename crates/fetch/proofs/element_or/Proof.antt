@@ -1,5 +1,5 @@
 -- `fetch::element_or` meets its contract: the address, then the place, then the components.
-use mathlib.Core.Path.{_≡_, sym, ap, _∙_}
+use mathlib.Core.Path.{sym, ap, _∙_}
 use lib.ListN.{length}
 use Rattle.fetch.specs.Decode.{vectorOf}
 use Rattle.fetch.specs.Sources.{fetchedIn}
@@ -9,33 +9,6 @@ use Rattle.fetch.proofs.Elements.{words-are}
 use borrow.Author.Needs.{needs}
 use Rattle.fetch.proofs.element_or.Statement.{statement}
 use Rattle.fetch.proofs.element_or.Tie as tie
-
-address-of-requires : tie.Need-address-of-requires
-address-of-requires c κs = search needs
-
-enum-told : tie.Need-enum-told
-enum-told c = search needs
-
-enum-told-2 : tie.Need-enum-told-2
-enum-told-2 c = search needs
-
-enum-known-found : tie.Need-enum-known-found
-enum-known-found c = search needs
-
-cast-len : tie.Need-cast-len
-cast-len c = search needs
-
-find-element-requires : tie.Need-find-element-requires
-find-element-requires c κs = search needs
-
-enum-told-3 : tie.Need-enum-told-3
-enum-told-3 c = search needs
-
-enum-told-4 : tie.Need-enum-told-4
-enum-told-4 c = search needs
-
-enum-known-place : tie.Need-enum-known-place
-enum-known-place c = search needs
 
 element-requires : tie.Need-element-requires
 element-requires c κs = (rw (c .before .place .given .1) at (c .before .before .before .find-element .ensures)) .0
@@ -70,15 +43,15 @@ pub element-or-spec : {M : Type 1} → statement M
 element-or-spec =
     tie.close
     (tie.spec
-    address-of-requires
-    enum-told
-    enum-told-2
-    enum-known-found
-    cast-len
-    find-element-requires
-    enum-told-3
-    enum-told-4
-    enum-known-place
+    (λ c κs. search needs)
+    (λ c. search needs)
+    (λ c. search needs)
+    (λ c. search needs)
+    (λ c. search needs)
+    (λ c κs. search needs)
+    (λ c. search needs)
+    (λ c. search needs)
+    (λ c. search needs)
     element-requires
     vector-requires
     returns

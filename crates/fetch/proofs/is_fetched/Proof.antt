@@ -7,27 +7,6 @@ use borrow.Author.Needs.{needs}
 use Rattle.fetch.proofs.is_fetched.Statement.{statement}
 use Rattle.fetch.proofs.is_fetched.Tie as tie
 
-address-of-requires : tie.Need-address-of-requires
-address-of-requires c κs = search needs
-
-enum-told : tie.Need-enum-told
-enum-told c = search needs
-
-enum-told-2 : tie.Need-enum-told-2
-enum-told-2 c = search needs
-
-enum-known-found : tie.Need-enum-known-found
-enum-known-found c = search needs
-
-cast-find-element : tie.Need-cast-find-element
-cast-find-element c = search needs
-
-find-element-requires : tie.Need-find-element-requires
-find-element-requires c κs = search needs
-
-is-at-requires : tie.Need-is-at-requires
-is-at-requires c κs = search needs
-
 returns : tie.Need-returns
 unfolding fetchedIn
 returns c = λ n. rw (sym (c .before .before .address-of .ensures) ∙ c .enum-told .given .1)
@@ -44,13 +23,13 @@ pub is-fetched-spec : {M : Type 1} → statement M
 is-fetched-spec =
     tie.close
     (tie.spec
-    address-of-requires
-    enum-told
-    enum-told-2
-    enum-known-found
-    cast-find-element
-    find-element-requires
-    is-at-requires
+    (λ c κs. search needs)
+    (λ c. search needs)
+    (λ c. search needs)
+    (λ c. search needs)
+    (λ c. search needs)
+    (λ c κs. search needs)
+    (λ c κs. search needs)
     returns
     returns-2
     returns-3)

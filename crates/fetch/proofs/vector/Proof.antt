@@ -27,12 +27,6 @@ vector-of-requires-4 c κs = rw (c .if4 .taken) at (c .before .before .before .b
 returns-4 : tie.Need-returns-4
 returns-4 c = rw (c .before .if4 .taken) (c .vector-of4 .ensures)
 
-vector-of-requires-5 : tie.Need-vector-of-requires-5
-vector-of-requires-5 c κs = search needs
-
-returns-5 : tie.Need-returns-5
-returns-5 c = search needs
-
 pub vector-spec : {M : Type 1} → statement M
 vector-spec =
     tie.close
@@ -45,5 +39,5 @@ vector-spec =
     returns-3
     vector-of-requires-4
     returns-4
-    vector-of-requires-5
-    returns-5)
+    (λ c κs. search needs)
+    (λ c. search needs))

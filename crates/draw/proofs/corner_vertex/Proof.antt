@@ -1,0 +1,38 @@
+-- `draw::corner_vertex` meets its contract: an earlier corner with the same index has the same words.
+use Prim.Native.Nat.{ℕ}
+use mathlib.Core.Path.{sym, ap, _∙_}
+use native.Mathlib.Omega.{arith}
+use denote.Ref.{now}
+use Rattle.draw.specs.Index.{indexList}
+use Rattle.draw.specs.Vertex.{vertexWords}
+use Rattle.draw.specs.Plan.{sources, vertexIn, cornerIndex}
+use Rattle.draw.specs.declared.Vertex.{Vertex}
+use Rattle.draw.proofs.CornerLists.{stands-read}
+use borrow.Author.Needs.{needs}
+use Rattle.draw.proofs.corner_vertex.Statement.{statement}
+use Rattle.draw.proofs.corner_vertex.Tie as tie
+
+mul-read-vertex : tie.Need-mul-read-vertex
+mul-read-vertex c = omega (arith, c .before .before .before .before .before .before .before .before .before .before .before .before .good .1 .1 .1 .1 .1 .1 .1 .1 .1 .1 .1 .1 .1 .1 .0, c .before .before .before .before .before .before .before .before .before .before .before .before .pre .1 .room, c .before .before .if1 .taken)
+
+returns : tie.Need-returns
+returns c =
+    let args = c .before .before .before .before .before .before .before .before .before .before .before .before .before .args in
+    let vertex : ℕ → Vertex = λ k. vertexIn (args .plan) (sources (now (args .positions)) (now (args .colors)) (now (args .b0)) (now (args .b1)) (now (args .b2)) (now (args .b3))) k in
+    c .read-vertex .ensures
+    ∙ stands-read (λ q. vertex (cornerIndex (args .p) (indexList (args .kind) (now (args .list)) (now (args .elements))) q)) (args .c) (args .candidate) (now (args .out)) (c .before .before .before .before .before .before .before .before .before .before .before .before .before .pre .1) (c .before .before .before .if1 .taken)
+    ∙ ap (λ (k : ℕ). vertexWords (vertex k)) (sym (c .before .before .corner-index .ensures) ∙ c .before .if2 .taken)
+
+returns-2 : tie.Need-returns-2
+returns-2 c = ap vertexWords (c .assemble .ensures)
+
+pub corner-vertex-spec : {M : Type 1} → statement M
+corner-vertex-spec =
+    tie.close
+    (tie.spec
+    (λ c κs. search needs)
+    mul-read-vertex
+    (λ c κs. search needs)
+    returns
+    (λ c κs. search needs)
+    returns-2)
