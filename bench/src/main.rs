@@ -15,6 +15,9 @@ use theirs::Theirs;
 /// Bytes of the library's Context: three stacks, buffers, arrays, current values, settings.
 const CONTEXT: usize = 3600;
 
+/// How often a state call stands in the list that is repeated.
+const LIST: usize = 64;
+
 struct Plan {
     rounds: u32,
     slice: Duration,
@@ -24,7 +27,8 @@ struct Plan {
 
 fn main() {
     let words: Vec<String> = std::env::args().skip(1).collect();
-    let word = |name: &str| words.iter().position(|w| w == name).and_then(|i| words.get(i + 1)).cloned();
+    let word =
+        |name: &str| words.iter().position(|w| w == name).and_then(|i| words.get(i + 1)).cloned();
     let smoke = words.iter().any(|w| w == "--smoke");
     let plan = Plan {
         rounds: if smoke { 3 } else { 25 },
@@ -36,32 +40,34 @@ fn main() {
         return profile(&plan, &side, word("--times").map_or(100, |n| n.parse().unwrap()));
     }
     draws(&plan);
-    if plan.only.is_none() {
-        floors(&plan);
-        states(&plan);
-    }
+    floors(&plan);
+    states(&plan);
 }
 
-/// One side alone, for a profiler.
+/// One side alone, for a profiler: the draws of 100 triangles and the state calls.
 fn profile(plan: &Plan, side: &str, times: u32) {
-    for mix in chosen(plan) {
-        let size = mix.sizes[0];
-        let work = mix.work(size);
-        raster::keep(work.last);
+    let draws = chosen(plan).into_iter().map(|mix| (mix.name.clone(), mix.work(mix.sizes[0])));
+    let calls = state_calls().into_iter().filter(|(name, _)| plan.is_chosen(name));
+    for (name, work) in
+        draws.chain(calls.map(|(name, call)| (name.into(), state_work(vec![call; LIST].concat()))))
+    {
+        raster::keep(work.last.max(1));
         match side {
             "ours" => Ours::new(&work, 51 * work.last).run(times),
             _ => Theirs::new(&work).run(times),
         }
-        println!("{}: {} triangles", mix.name, times as usize * size);
+        println!("{name}: {times} times");
+    }
+}
+
+impl Plan {
+    fn is_chosen(&self, name: &str) -> bool {
+        self.only.as_ref().is_none_or(|part| name.contains(part))
     }
 }
 
 fn chosen(plan: &Plan) -> Vec<mix::Mix> {
-    let mut mixes = mix::all();
-    if let Some(part) = &plan.only {
-        mixes.retain(|m| m.name.contains(part));
-    }
-    mixes
+    mix::all().into_iter().filter(|m| plan.is_chosen(&m.name)).collect()
 }
 
 // ---- draws ----
@@ -186,24 +192,31 @@ fn context_copy(plan: &Plan) -> f64 {
 
 // ---- state calls ----
 
+fn state_calls() -> Vec<(&'static str, Vec<Call>)> {
+    vec![
+        ("translate", vec![Call::Translate(0.0, 0.0, 0.0)]),
+        ("push_matrix, pop_matrix", vec![Call::Push, Call::Pop]),
+        ("bind_buffer", vec![Call::Bind(ARRAY, 1)]),
+        ("set_vertex_pointer", vec![Call::VertexPointer(3, FLOAT, 0, 4096)]),
+        ("set_color", vec![Call::Color([0.5, 0.5, 0.5, 1.0])]),
+        ("buffer_data of 4,096 bytes", vec![Call::Data(ARRAY, vec![7; 4096])]),
+    ]
+}
+
+fn state_work(again: Vec<Call>) -> Work {
+    let mut first = mix::matrices();
+    first.push(Call::Bind(ARRAY, 1));
+    Work { first, again, guest: vec![0; 16], triangles: 0, last: 0 }
+}
+
 fn states(plan: &Plan) {
     let copy = context_copy(plan);
     println!("## State calls, ns a call\n");
     println!("| call | Rust | ours | copies of a context in and out |\n|---|---|---|---|");
-    let calls: [(&str, Vec<Call>); 6] = [
-        ("translate", vec![Call::Translate(0.0, 0.0, 0.0)]),
-        ("push, pop", vec![Call::Push, Call::Pop]),
-        ("bind_buffer", vec![Call::Bind(ARRAY, 1)]),
-        ("vertex_pointer", vec![Call::VertexPointer(3, FLOAT, 0, 4096)]),
-        ("color", vec![Call::Color([0.5, 0.5, 0.5, 1.0])]),
-        ("buffer_data of 4,096 bytes", vec![Call::Data(ARRAY, vec![7; 4096])]),
-    ];
-    for (name, again) in calls {
+    for (name, call) in state_calls().into_iter().filter(|(name, _)| plan.is_chosen(name)) {
+        let again = vec![call; LIST].concat();
         let each = again.len() as f64;
-        let mut first = mix::matrices();
-        first.push(Call::Bind(ARRAY, 1));
-        let work = Work { first, again, guest: vec![0; 16], triangles: 0, last: 0 };
-        let (theirs, ours) = both(&work, plan);
+        let (theirs, ours) = both(&state_work(again), plan);
         let (theirs, ours) = (theirs / each, ours / each);
         println!("| {name} | {theirs:.1} | {ours:.1} | {:.2} |", ours / copy);
     }

@@ -233,9 +233,18 @@ pub fn all() -> Vec<Mix> {
     add("range, list", Mix { source: Source::Range, ..one.clone() });
     add("range, strip", Mix { source: Source::Range, mode: 5, ..one.clone() });
     add("guest shorts, list, unshared", Mix { source: Source::Shorts, ..one.clone() });
-    add("guest shorts, list, six times", Mix { source: Source::Shorts, shared: true, ..one.clone() });
-    add("element buffer, list, six times", Mix { source: Source::Elements, shared: true, sizes: vec![100, 600], ..one.clone() });
-    add("arrays in buffers, list, unshared", Mix { buffered: true, sizes: vec![100], ..one.clone() });
+    add(
+        "guest shorts, list, six times",
+        Mix { source: Source::Shorts, shared: true, ..one.clone() },
+    );
+    add(
+        "element buffer, list, six times",
+        Mix { source: Source::Elements, shared: true, sizes: vec![100, 600], ..one.clone() },
+    );
+    add(
+        "arrays in buffers, list, unshared",
+        Mix { buffered: true, sizes: vec![100], ..one.clone() },
+    );
     let rare = Mix { common: false, ..one.clone() };
     add("fixed, byte colours, 1 stage", Mix { position: FIXED, ..rare.clone() });
     add("byte, byte colours, 1 stage", Mix { position: BYTE, ..rare.clone() });
@@ -243,6 +252,9 @@ pub fn all() -> Vec<Mix> {
     add("f32, no colour array, 1 stage", Mix { color: false, ..rare.clone() });
     add("f32, byte colours, 4 stages, unshared", Mix { stages: 4, ..rare.clone() });
     add("f32, byte colours, 4 stages, six times", Mix { stages: 4, shared: true, ..rare.clone() });
-    add("short, byte colours, 4 stages, strip", Mix { position: SHORT, stages: 4, mode: 5, ..rare.clone() });
+    add(
+        "short, byte colours, 4 stages, strip",
+        Mix { position: SHORT, stages: 4, mode: 5, ..rare.clone() },
+    );
     mixes
 }

@@ -40,7 +40,8 @@ impl Ours {
 
     /// Makes the first calls once and the others so many times.
     pub fn run(&mut self, times: u32) {
-        let read = call(&self.first, &self.again, times, &self.bytes, &mut self.store, &mut self.out);
+        let read =
+            call(&self.first, &self.again, times, &self.bytes, &mut self.store, &mut self.out);
         assert_eq!(read, self.first.len(), "the first list was not read whole");
     }
 
@@ -52,7 +53,14 @@ impl Ours {
     }
 }
 
-fn call(first: &[u32], again: &[u32], times: u32, bytes: &[u8], store: &mut [u8], out: &mut [f32]) -> usize {
+fn call(
+    first: &[u32],
+    again: &[u32],
+    times: u32,
+    bytes: &[u8],
+    store: &mut [u8],
+    out: &mut [f32],
+) -> usize {
     let (fp, fl, ap, al) = (first.as_ptr(), first.len(), again.as_ptr(), again.len());
     let (bp, bl, sp, sl) = (bytes.as_ptr(), bytes.len(), store.as_mut_ptr(), store.len());
     unsafe { beonasul_repeat(fp, fl, ap, al, times, bp, bl, sp, sl, out.as_mut_ptr(), out.len()) }

@@ -85,7 +85,9 @@ fn make(c: &mut Context, guest: &mut Guest, call: &Call) {
         Call::Data(target, data) => c.buffer_data(*target, data.len(), Some(data), 0),
         Call::VertexPointer(size, ty, stride, at) => c.set_vertex_pointer(*size, *ty, *stride, *at),
         Call::ColorPointer(size, ty, stride, at) => c.set_color_pointer(*size, *ty, *stride, *at),
-        Call::TexcoordPointer(size, ty, stride, at) => c.set_texcoord_pointer(*size, *ty, *stride, *at),
+        Call::TexcoordPointer(size, ty, stride, at) => {
+            c.set_texcoord_pointer(*size, *ty, *stride, *at)
+        }
         Call::ClientState(array, on) => c.set_client_state(*array, *on),
         Call::ClientUnit(unit) => c.set_client_active_texture(*unit),
         Call::Color(color) => c.current_color = *color,
@@ -98,6 +100,8 @@ fn make_draw(c: &mut Context, guest: &mut Guest, draw: &Draw) {
     match &draw.indices {
         Indices::Lent(list) => c.draw_elements(guest, draw.mode, list),
         Indices::Range(first, count) => c.draw_arrays(guest, draw.mode, *first, *count),
-        Indices::Stored(count, ty, at) => c.draw_elements_from_guest(guest, draw.mode, *count, *ty, *at),
+        Indices::Stored(count, ty, at) => {
+            c.draw_elements_from_guest(guest, draw.mode, *count, *ty, *at)
+        }
     }
 }

@@ -1,8 +1,9 @@
 ghost use mathlib.Core.Path.{_≡_};
 ghost use mathlib.Core.List.{List};
 ghost use mathlib.Core.Bool.{true, cond};
-ghost use Prim.Native.Nat.{ℕ, _+_, _<_, _≤_, max};
-ghost use lib.ListN.{length, getD};
+ghost use Prim.Native.Nat.{ℕ, _+_, _<_, _≤_, min, max};
+ghost use lib.ListN.{length};
+ghost use lib.Seq.{paste};
 ghost use lib.Dec.{eqb, ltb};
 ghost use Rattle.number.specs.Decides.{Decides};
 ghost use Rattle.buffers.specs.Objects.{slotCount, lastName, slotOf, withSlot, lenAt, Bindable, Sound, SoundIs, SlotSound, IsFresh, objects, Made, Answers, bindBuffer, AnswersIn, bufferData, bufferSubData, padded, overwrite, isTarget, boundAt, deleteName, Steps, deleteBuffers, Generates, liveIn};
@@ -234,25 +235,49 @@ pub fn bind_buffer(b: Buffers, target: u32, name: u32) -> Answered
     }
 }
 
-// The byte at an index, 0 past the end.
-fn byte_or_zero(data: &[u8], i: usize) -> u8
-    ensures { λ r. ⌜ r ≡ getD (now («data» .entry)) i 0 ⌝ }
+// The smaller of two numbers.
+fn smaller(a: usize, b: usize) -> usize
+    ensures { λ r. ⌜ r ≡ min a b ⌝ }
 {
-    if i < data.len() {
-        return data[i];
+    if a < b {
+        return a;
     }
-    0
+    b
 }
 
-// Writes `size` bytes from `at` on: the data, then zeroes.
+// Copies the first n bytes of the data.
+fn copy_bytes(store: &mut [u8], at: usize, n: usize, data: &[u8])
+    requires { ⌜ (at + n ≤ length (now store)) × (n ≤ length (now «data»)) ⌝ }
+    ensures { λ r. ⌜ ((size : ℕ) → n ≤ size → now (store .exit) ≡ paste (now (store .entry)) at (padded size (now («data» .entry))) n) ⌝ }
+{
+    let mut i = 0;
+    while i < n {
+        store[at + i] = data[i];
+        i += 1;
+    }
+}
+
+// Zeroes the bytes after the first n, up to `size`.
+fn clear_bytes(store: &mut [u8], at: usize, n: usize, size: usize)
+    requires { ⌜ (at + size ≤ length (now store)) × (n ≤ size) ⌝ }
+    ensures { λ r. ⌜ ((old bytes : List ℕ) → length bytes ≤ n → length old ≡ length (now (store .entry)) → now (store .entry) ≡ paste old at (padded size bytes) n → now (store .exit) ≡ paste old at (padded size bytes) size) ⌝ }
+{
+    let mut i = n;
+    while i < size {
+        store[at + i] = 0;
+        i += 1;
+    }
+}
+
+// Writes the data, then zeroes, `size` bytes in all.
 fn write_padded(store: &mut [u8], at: usize, size: usize, data: &[u8])
     requires { ⌜ at + size ≤ length (now store) ⌝ }
     ensures { λ r. ⌜ now (store .exit) ≡ overwrite (now (store .entry)) at (padded size (now («data» .entry))) ⌝ }
 {
-    let mut i = 0;
-    while i < size {
-        store[at + i] = byte_or_zero(data, i);
-        i += 1;
+    let n = smaller(size, data.len());
+    copy_bytes(&mut store[..], at, n, data);
+    if data.len() < size {
+        clear_bytes(&mut store[..], at, n, size);
     }
 }
 
