@@ -1,5 +1,5 @@
 -- From a record to what its call does. Assumes nothing.
-use mathlib.Core.Bool.{Bool, true, false, cond}
+use mathlib.Core.Bool.{true, false}
 use mathlib.Core.List.{List}
 use mathlib.Core.Option.{some}
 use mathlib.Core.Path.{_≡_, refl, sym, subst}
@@ -15,8 +15,9 @@ use Rattle.context.specs.Calls.{BufferCall, buffer, array, Call, matrix, mode, 
 use Rattle.records.specs.declared.CallReply.{CallReply}
 use Rattle.words.specs.Words.{wordAt, fourFloats, matrixFloats}
 use Rattle.records.specs.Encoding.{matrixOf, bufferOf, arrayOf, attributeOf, pipelineOf, sourceOf, drawOfWords, callOf, isRecord, recordCall}
-use Rattle.records.specs.Perform.{Makes, isDraw, valueOf, Gives, DrewIn, replyOf, Performed, called, drew, Performs, was-made, was-unknown}
+use Rattle.records.specs.Perform.{Makes, isDraw, valueOf, Gives, DrewIn, replyOf, called, drew, Performs, was-made, was-unknown}
 use Rattle.buffer_records.proofs.Answers.{Answers}
+use Rattle.runner.specs.Run.{Changes}
 
 -- ---- which group a code is of
 
@@ -84,3 +85,21 @@ module _ (bytes : List ℕ) (room code : ℕ) (w : List ℕ) {c : Context} {s : 
 
   pub a-record-call : isRecord code (length w) ≡ true → {r : CallReply} {s1 : List ℕ} {out1 : List Float} → Performs c s out r s1 out1 (some (callOf bytes room code w)) → Performs c s out r s1 out1 (recordCall bytes room code w)
   a-record-call e p = rw e p
+
+-- ---- the same for a list, which keeps the context alone
+
+changes-is : {k k′ : Call} {c c1 : Context} {s s1 : List ℕ} {out out1 : List Float} → k ≡ k′ → Changes c s out c1 s1 out1 k → Changes c s out c1 s1 out1 k′
+changes-is {c = c} {c1 = c1} {s = s} {s1 = s1} {out = out} {out1 = out1} e p = subst (λ (k : Call). Changes c s out c1 s1 out1 k) e p
+
+module _ {k′ : Call} {c : Context} {out : List Float} where
+  pub changes : {k : Call} {n : ℕ} {c1 : Context} {s : List ℕ} → k ≡ k′ → Makes k c n c1 → isDraw k ≡ false → 0 ≡ valueOf k c n → Changes c s out c1 s out k′
+  changes {n = n} {s = s} e m f v = changes-is e (record { number = n; value = 0; made = called (m s) f v refl })
+
+  pub changes-value : {k : Call} {r : CallReply} {s : List ℕ} → k ≡ k′ → (r .known ≡ true) × Gives k c (r .number) (r .value) (r .context) → isDraw k ≡ false → Changes c s out (r .context) s out k′
+  changes-value {r = r} {s = s} e g f = changes-is e (record { number = r .number; value = r .value; made = called (g .1 .makes s) f (g .1 .value-is) refl })
+
+  pub changes-buffer : {k : BufferCall} {r : CallReply} {s s1 : List ℕ} → object (buffer k) ≡ k′ → Answers k c s r s1 → Changes c s out (r .context) s1 out k′
+  changes-buffer {r = r} e a = changes-is e (record { number = r .number; value = r .value; made = called (a .0 .1) refl (a .1) refl })
+
+  pub changes-draw : {d : DrawCall} {s : List ℕ} {out1 : List Float} {a : DrawReply} → draw d ≡ k′ → DrewIn d c s out a out1 → Changes c s out (a .context) s out1 k′
+  changes-draw {a = a} e m = changes-is e (record { number = a .number; value = a .count; made = drew m refl })

@@ -1,14 +1,14 @@
 -- One record after the other: what a list of calls leaves. Assumes nothing.
 use mathlib.Core.Bool.{Bool, true, false, cond, true≢false}
 use mathlib.Core.List.{List, [], _∷_, _++_, append-assoc, append-nil}
-use mathlib.Core.Option.{Option, some, none}
+use mathlib.Core.Option.{some, none}
 use mathlib.Core.Path.{_≡_, refl, sym, ap, subst, _∙_}
 use Prim.Native.Nat.{ℕ, zero, suc, _+_, _-_, _*_, _<_, _≤_}
 use native.Mathlib.Omega.{arith}
 use native.Mathlib.Nat.{zero-add, add-zero, add-assoc}
-use borrow.Author.Tests.{eqb-true, eqb-false, eq-eqb, ne-eqb, leb-true, leb-false, le-leb, lt-leb}
-use lib.Dec.{eqb, leb}
-use lib.ListN.{length, getD, take, drop, length-drop, take-append-drop}
+use borrow.Author.Tests.{lt-ltb, le-ltb, eq-eqb, ne-eqb, ltb-true, ltb-false, leb-true, le-leb, lt-leb}
+use lib.Dec.{ltb, leb}
+use lib.ListN.{length, take, drop, length-take, length-drop, take-append-drop}
 use lib.Seq.{getD-drop, drop-drop, drop-append-le}
 use lib.Ieee.{Float}
 use Rattle.draw.specs.Scene.{DrawCall}
@@ -20,13 +20,11 @@ use Rattle.context.specs.declared.DrawReply.{DrawReply}
 use Rattle.context.specs.Calls.{Call, matrix, mode, object, attribute, pipeline, takeError, draw}
 use Rattle.history.specs.Demand3.{logs, drawReplayed, DrawMade, by-draw-elements, by-draw-arrays, by-draw-elements-from-guest, by-draw, Made, History, then}
 use Rattle.history.proofs.Demand3.{demand-3}
-use Rattle.records.specs.declared.CallReply.{CallReply}
-use Rattle.runner.specs.declared.StepReply.{StepReply}
 use Rattle.words.specs.Words.{wordAt}
-use Rattle.records.specs.Encoding.{recordCall}
-use Rattle.records.specs.Perform.{isDraw, DrewIn, Performed, called, drew, Performs, was-made, was-unknown}
-use Rattle.runner.specs.Lists.{recordLength, firstCall, onward, decodeTo, wordsTo, decode, wordsRead}
-use Rattle.runner.specs.Run.{Steps, went-on, ended, outputAfter, outputFrom, Continues}
+use Rattle.records.specs.Encoding.{callOf, isRecord, recordCall}
+use Rattle.records.specs.Perform.{isDraw, Performed, called, drew}
+use Rattle.runner.specs.Lists.{recordLength, nextSize, firstCall, onward, decodeTo, wordsTo, decode, wordsRead}
+use Rattle.runner.specs.Run.{Changes, outputAfter, outputFrom, Continues}
 
 -- ---- the record at a place
 
@@ -61,47 +59,89 @@ module _ (words : List ℕ) (place size : ℕ) (e : size ≡ recordLength (drop 
         let k : wordAt (drop place words) 0 ≡ code = getD-drop place words 0 0 ∙ ap (λ (i : ℕ). wordAt words i) (add-zero place) ∙ sym ec in
         rw (ne-eqb (recordLength (drop place words)) 0 (λ z. n (e ∙ z)), k, drop-drop 2 place words) (ap (λ (m : ℕ). recordCall bytes room code (take m (drop (place + 2) words))) q)
 
--- ---- one record
+-- ---- the next record
 
-module _ (r : CallReply) {c : Context} {s s1 : List ℕ} {out out1 : List Float} where
-  pub step-made : (o : Option Call) (size place left : ℕ) → Performs c s out r s1 out1 o → r .known ≡ true → Steps size place left c s out (record { place = place + size; left = left - 1; context = r .context }) s1 out1 o
-  step-made o size place left (was-made k p) e = went-on p refl refl
-  step-made o size place left (was-unknown k n v c s t) e = absurd (true≢false (sym e ∙ k))
-
-  pub step-ended : (o : Option Call) (size place left : ℕ) → Performs c s out r s1 out1 o → r .known ≡ false → Steps size place left c s out (record { place = place; left = 0; context = r .context }) s1 out1 o
-  step-ended o size place left (was-made k p) e = absurd (true≢false (sym k ∙ e))
-  step-ended o size place left (was-unknown k n v c s t) e = ended refl refl c s t
-
-module _ (words bytes : List ℕ) (place size left room : ℕ) (e : size ≡ recordLength (drop place words)) {c : Context} {s : List ℕ} {out : List Float} where
-  -- no record follows
-  pub step-none : size ≡ 0 → Steps (recordLength (drop place words)) place left c s out (record { place = place; left = 0; context = c }) s out (firstCall bytes room (drop place words))
-  step-none z = subst (λ o. Steps (recordLength (drop place words)) place left c s out (record { place = place; left = 0; context = c }) s out o) (no-record words place size e bytes room z) (ended refl refl refl refl refl)
-
-  module _ (n : size ≡ 0 → ⊥) (code : ℕ) (ec : code ≡ wordAt words place) (r : CallReply) {s1 : List ℕ} {out1 : List Float} (p : Performs c s out r s1 out1 (recordCall bytes room code (take (place + size - (place + 2)) (drop (place + 2) words)))) where
-    performs-first : Performs c s out r s1 out1 (firstCall bytes room (drop place words))
-    performs-first = subst (λ o. Performs c s out r s1 out1 o) (a-record words place size e bytes room n code ec) p
-
-    pub step-known : r .known ≡ true → Steps (recordLength (drop place words)) place left c s out (record { place = place + size; left = left - 1; context = r .context }) s1 out1 (firstCall bytes room (drop place words))
-    step-known k = subst (λ (m : ℕ). Steps m place left c s out (record { place = place + size; left = left - 1; context = r .context }) s1 out1 (firstCall bytes room (drop place words))) e (step-made r (firstCall bytes room (drop place words)) size place left performs-first k)
-
-    pub step-unknown : r .known ≡ false → Steps (recordLength (drop place words)) place left c s out (record { place = place; left = 0; context = r .context }) s1 out1 (firstCall bytes room (drop place words))
-    step-unknown k = step-ended r (firstCall bytes room (drop place words)) (recordLength (drop place words)) place left performs-first k
-
-pub steps-less : {size place left : ℕ} {c : Context} {s s1 : List ℕ} {out out1 : List Float} {r : StepReply} {o : Option Call} → Steps size place left c s out r s1 out1 o → 0 < left → r .left < left
-steps-less (went-on p ep el) h = omega arith
-steps-less (ended ep el ec es eo) h = omega arith
-
-abbrev is-some : Option Call → Bool
-is-some (some k) = true
-is-some none = false
-
--- the next record starts within the words
-pub steps-inside : (words bytes : List ℕ) (place room : ℕ) {left : ℕ} {c : Context} {s s1 : List ℕ} {out out1 : List Float} {r : StepReply} → place ≤ length words → Steps (recordLength (drop place words)) place left c s out r s1 out1 (firstCall bytes room (drop place words)) → r .place ≤ length words
-steps-inside words bytes place room {left = left} {c = c} {s = s} {s1 = s1} {out = out} {out1 = out1} {r = r} h p = go (firstCall bytes room (drop place words)) refl p
+-- a record has two words at least
+length-zero : (l : List ℕ) → recordLength l < 2 → recordLength l ≡ 0
+length-zero l h = go (leb (2 + wordAt l 1) (length l)) h
   where
-    go : (o : Option Call) → firstCall bytes room (drop place words) ≡ o → Steps (recordLength (drop place words)) place left c s out r s1 out1 o → r .place ≤ length words
-    go o f (went-on q ep el) = omega (arith, record-inside words place (recordLength (drop place words)) refl (λ z. true≢false (sym (ap is-some (no-record words place (recordLength (drop place words)) refl bytes room z ∙ f)))) .1)
-    go o f (ended ep el ec es eo) = omega arith
+    go : (b : Bool) → cond b (2 + wordAt l 1) 0 < 2 → cond b (2 + wordAt l 1) 0 ≡ 0
+    go true k = absurd (omega arith)
+    go false k = refl
+
+-- words that are no record's have no call
+not-a-record : (words : List ℕ) (place : ℕ) (bytes : List ℕ) (room : ℕ) → 2 ≤ recordLength (drop place words) → isRecord (wordAt (drop place words) 0) (recordLength (drop place words) - 2) ≡ false → firstCall bytes room (drop place words) ≡ none
+unfolding firstCall
+not-a-record words place bytes room h f =
+    let l = drop place words in
+    let some-words : recordLength l ≡ 0 → ⊥ = λ z. absurd (omega arith) in
+    let r = record-is words place (recordLength l) refl some-words in
+    let w = take (wordAt l 1) (drop 2 l) in
+    let long : recordLength l - 2 ≡ length w = omega (arith, r .0, r .1, length-take (wordAt l 1) (drop 2 l), length-drop 2 l) in
+    rw (ne-eqb (recordLength l) 0 some-words) (ap (λ b. cond b (some (callOf bytes room (wordAt l 0) w)) none) (ap (isRecord (wordAt l 0)) (sym long) ∙ f))
+
+-- what the code finds of it
+module _ (words : List ℕ) (place : ℕ) {size : ℕ} (e : size ≡ recordLength (drop place words)) where
+  pub size-short : size < 2 → 0 ≡ nextSize (drop place words)
+  unfolding nextSize
+  size-short h = let l : recordLength (drop place words) < 2 = omega arith in rw (lt-ltb (recordLength (drop place words)) 2 l)
+
+  module _ (h : 2 ≤ size) {code : ℕ} (ec : code ≡ wordAt words place) where
+    first-word : code ≡ wordAt (drop place words) 0
+    first-word = ec ∙ sym (getD-drop place words 0 0 ∙ ap (λ (i : ℕ). wordAt words i) (add-zero place))
+
+    -- by whether its words are a record's
+    size-by : {b : Bool} → isRecord code (size - 2) ≡ b → cond b size 0 ≡ nextSize (drop place words)
+    unfolding nextSize
+    size-by {b = b} k =
+        let l = drop place words in
+        let long : 2 ≤ recordLength l = omega arith in
+        rw (le-ltb (recordLength l) 2 long)
+        ((λ i. cond b (e i) 0) ∙ ap (λ (t : Bool). cond t (recordLength l) 0) (sym k ∙ (λ i. isRecord (first-word i) (e i - 2))))
+
+    pub size-known : isRecord code (size - 2) ≡ true → size ≡ nextSize (drop place words)
+    size-known k = size-by k
+
+    pub size-unknown : isRecord code (size - 2) ≡ false → 0 ≡ nextSize (drop place words)
+    size-unknown k = size-by k
+
+size-cases : (r : ℕ) (b k : Bool) (size : ℕ) → size ≡ cond b 0 (cond k r 0) → (size ≡ 0 → ⊥) → (size ≡ r) × (b ≡ false) × (k ≡ true)
+size-cases r true k size e n = absurd (n e)
+size-cases r false true size e n = (e, refl, refl)
+size-cases r false false size e n = absurd (n e)
+
+module _ (words bytes : List ℕ) (place size room : ℕ) (e : size ≡ nextSize (drop place words)) where
+  abbrev rest : List ℕ
+  rest = drop place words
+
+  next-is : (size ≡ 0 → ⊥) → (size ≡ recordLength rest) × (2 ≤ recordLength rest) × (isRecord (wordAt rest 0) (recordLength rest - 2) ≡ true)
+  unfolding nextSize
+  next-is n = let r = size-cases (recordLength rest) (ltb (recordLength rest) 2) (isRecord (wordAt rest 0) (recordLength rest - 2)) size e n in (r .0, ltb-false (recordLength rest) 2 (r .1), r .2)
+
+  pub next-inside : (size ≡ 0 → ⊥) → (2 ≤ size) × (place + size ≤ length words)
+  next-inside n = record-inside words place size (next-is n .0) n
+
+  pub next-some : (size ≡ 0 → ⊥) → (code : ℕ) → code ≡ wordAt words place → firstCall bytes room rest ≡ some (callOf bytes room code (take (place + size - (place + 2)) (drop (place + 2) words)))
+  next-some n code ec =
+      let r = next-is n in
+      let inside = next-inside n in
+      let w = take (place + size - (place + 2)) (drop (place + 2) words) in
+      let k : wordAt rest 0 ≡ code = getD-drop place words 0 0 ∙ ap (λ (i : ℕ). wordAt words i) (add-zero place) ∙ sym ec in
+      let long : recordLength rest - 2 ≡ length w = omega (arith, r .0, inside .0, inside .1, length-take (place + size - (place + 2)) (drop (place + 2) words), length-drop (place + 2) words) in
+      let is : isRecord code (length w) ≡ true = (λ i. isRecord (sym k i) (sym long i)) ∙ r .2 in
+      sym (a-record words place size (r .0) bytes room n code ec) ∙ ap (λ b. cond b (some (callOf bytes room code w)) none) is
+
+  size-is : size ≡ cond (ltb (recordLength rest) 2) 0 (cond (isRecord (wordAt rest 0) (recordLength rest - 2)) (recordLength rest) 0)
+  unfolding nextSize
+  size-is = e
+
+  pub next-none : size ≡ 0 → firstCall bytes room rest ≡ none
+  next-none z = go (ltb (recordLength rest) 2) (isRecord (wordAt rest 0) (recordLength rest - 2)) refl refl size-is
+    where
+      go : (b k : Bool) → ltb (recordLength rest) 2 ≡ b → isRecord (wordAt rest 0) (recordLength rest - 2) ≡ k → size ≡ cond b 0 (cond k (recordLength rest) 0) → firstCall bytes room rest ≡ none
+      go true k f g q = sym (no-record words place (recordLength rest) refl bytes room (length-zero rest (ltb-true (recordLength rest) 2 f)))
+      go false true f g q = absurd (omega (arith, ltb-false (recordLength rest) 2 f))
+      go false false f g q = not-a-record words place bytes room (ltb-false (recordLength rest) 2 f) g
 
 -- ---- the output of a call
 
@@ -186,20 +226,25 @@ module _ {start : List Call} {words bytes : List ℕ} {out₀ : List Float} {pla
         output = sym (ap (λ (l : List Call). outputFrom (g .before) l out) stop) ∙ g .output;
       }
 
-  pub progress-step : {r : StepReply} {s1 : List ℕ} {out1 : List Float} (o : Option Call) → firstCall bytes (length out₀) (drop place words) ≡ o
-      → Steps (recordLength (drop place words)) place (suc m) c s out r s1 out1 o → Progress start words bytes out₀ (r .place) (r .left) (r .context) s1 out1
-  progress-step {r = r} {s1 = s1} {out1 = out1} o f (went-on p ep el) = let q : m ≡ r .left = omega arith in subst (λ (x : ℕ × ℕ). Progress start words bytes out₀ (x .0) (x .1) (r .context) s1 out1) (λ i. (sym ep i, q i)) (progress-made f p)
-  progress-step {r = r} {s1 = s1} {out1 = out1} o f (ended ep el ec es eo) =
-      subst (λ (x : ℕ × ℕ). Progress start words bytes out₀ (x .0) (x .1) (r .context) s1 out1) (λ i. (sym ep i, sym el i))
-      (subst (λ (x : Context × List ℕ × List Float). Progress start words bytes out₀ place 0 (x .0) (x .1) (x .2)) (λ i. (sym ec i, sym es i, sym eo i)) (progress-ended f))
-
 module _ {start : List Call} {words bytes : List ℕ} {out₀ : List Float} where
-  pub progress-next : {place left : ℕ} {c : Context} {s s1 : List ℕ} {out out1 : List Float} {r : StepReply} → Progress start words bytes out₀ place left c s out → 0 < left → length out ≡ length out₀
-      → Steps (recordLength (drop place words)) place left c s out r s1 out1 (firstCall bytes (length out) (drop place words)) → Progress start words bytes out₀ (r .place) (r .left) (r .context) s1 out1
-  progress-next {left = zero} g h size p = absurd (omega arith)
-  progress-next {place = place} {left = suc m} {c = c} {s = s} {s1 = s1} {out = out} {out1 = out1} {r = r} g h size p =
-      progress-step g (firstCall bytes (length out₀) (drop place words)) refl
-      (subst (λ (n : ℕ). Steps (recordLength (drop place words)) place (suc m) c s out r s1 out1 (firstCall bytes n (drop place words))) size p)
+  -- the next call is made
+  pub progress-next : {place left size : ℕ} {c c1 : Context} {s s1 : List ℕ} {out out1 : List Float} → Progress start words bytes out₀ place left c s out → 0 < left → length out ≡ length out₀
+      → size ≡ nextSize (drop place words) → (size ≡ 0 → ⊥) → {code : ℕ} → code ≡ wordAt words place
+      → Changes c s out c1 s1 out1 (callOf bytes (length out) code (take (place + size - (place + 2)) (drop (place + 2) words)))
+      → Progress start words bytes out₀ (place + size) (left - 1) c1 s1 out1
+  progress-next {left = zero} g h l e n ec p = absurd (omega arith)
+  progress-next {place = place} {left = suc m} {size = size} {c = c} {c1 = c1} {s = s} {s1 = s1} {out = out} {out1 = out1} g h l e n {code = code} ec p =
+      let w = take (place + size - (place + 2)) (drop (place + 2) words) in
+      let q = subst (λ (r : ℕ). Performed c s out (p .number) (p .value) c1 s1 out1 (callOf bytes r code w)) l (p .made) in
+      let less : m ≡ suc m - 1 = omega arith in
+      subst (λ (x : ℕ × ℕ). Progress start words bytes out₀ (place + x .0) (x .1) c1 s1 out1) (λ i. (sym (next-is words bytes place size (length out₀) e n .0) i, less i))
+      (progress-made g (next-some words bytes place size (length out₀) e n code ec) q)
+
+  -- no call follows
+  pub progress-stop : {place left size : ℕ} {c : Context} {s : List ℕ} {out : List Float} → Progress start words bytes out₀ place left c s out → 0 < left
+      → size ≡ nextSize (drop place words) → size ≡ 0 → Progress start words bytes out₀ place 0 c s out
+  progress-stop {left = zero} g h e z = absurd (omega arith)
+  progress-stop {place = place} {left = suc m} {size = size} g h e z = progress-ended g (next-none words bytes place size (length out₀) e z)
 
   -- before the first call
   pub progress-start : {c : Context} {s : List ℕ} → History start c s → Progress start words bytes out₀ 0 (length words) c s out₀

@@ -2,16 +2,20 @@
 use mathlib.Core.Bool.{cond}
 use mathlib.Core.List.{List, [], _∷_}
 use mathlib.Core.Option.{Option, some, none}
-use Prim.Native.Nat.{ℕ, zero, suc, _+_}
-use lib.Dec.{eqb, leb}
+use Prim.Native.Nat.{ℕ, zero, suc, _+_, _-_}
+use lib.Dec.{eqb, ltb, leb}
 use lib.ListN.{length, take, drop}
 use Rattle.context.specs.Calls.{Call}
 use Rattle.words.specs.Words.{wordAt}
-use Rattle.records.specs.Encoding.{recordCall}
+use Rattle.records.specs.Encoding.{isRecord, recordCall}
 
 -- the words of the record at the start of a list, its code and their number included; 0 where it is not all there
 abbrev pub recordLength : List ℕ → ℕ
 recordLength words = cond (leb (2 + wordAt words 1) (length words)) (2 + wordAt words 1) 0
+
+-- the same of a record that has a call, else 0
+unfoldable pub nextSize : List ℕ → ℕ
+nextSize words = cond (ltb (recordLength words) 2) 0 (cond (isRecord (wordAt words 0) (recordLength words - 2)) (recordLength words) 0)
 
 -- the call of the record at the start of a list
 unfoldable pub firstCall : List ℕ → ℕ → List ℕ → Option Call

@@ -1,8 +1,7 @@
 -- What the function that makes the calls of a list promises.
 use mathlib.Core.List.{List, [], _∷_, _++_}
-use mathlib.Core.Option.{Option, some, none}
 use mathlib.Core.Path.{_≡_}
-use Prim.Native.Nat.{ℕ, _+_, _-_}
+use Prim.Native.Nat.{ℕ}
 use lib.ListN.{length}
 use lib.Ieee.{Float}
 use Rattle.buffers.specs.Objects.{storeBytes}
@@ -12,17 +11,17 @@ use Rattle.context.specs.State.{Fresh}
 use Rattle.context.specs.Calls.{Call, matrix, mode, object, attribute, pipeline, takeError, draw}
 use Rattle.history.specs.Demand3.{Logs, logs, drawReplayed, History}
 use Rattle.records.specs.Perform.{Performed}
-use Rattle.runner.specs.declared.StepReply.{StepReply}
 use Rattle.runner.specs.declared.ListReply.{ListReply}
 use Rattle.runner.specs.declared.RunReply.{RunReply}
 use Rattle.runner.specs.Lists.{decode, wordsRead}
 
--- ---- one record of a list
+-- ---- one call of a list
 
--- the call of a record is made, and the list goes on after it; else it ends
-pub data Steps (size place left : ℕ) (c : Context) (s : List ℕ) (out : List Float) (r : StepReply) (s1 : List ℕ) (out1 : List Float) : Option Call → Type 0 where
-  went-on : {k : Call} {n value : ℕ} → Performed c s out n value (r .context) s1 out1 k → r .place ≡ place + size → r .left ≡ left - 1 → Steps size place left c s out r s1 out1 (some k)
-  ended : r .place ≡ place → r .left ≡ 0 → r .context ≡ c → s1 ≡ s → out1 ≡ out → Steps size place left c s out r s1 out1 none
+-- the call was made, with some number and value
+pub record Changes (c : Context) (s : List ℕ) (out : List Float) (c1 : Context) (s1 : List ℕ) (out1 : List Float) (k : Call) : Type 0 where
+  pub number : ℕ
+  pub value : ℕ
+  pub made : Performed c s out number value c1 s1 out1 k
 
 -- ---- a list
 

@@ -6,14 +6,13 @@ use records::CallReply;
 ghost use mathlib.Core.List.{List};
 ghost use mathlib.Core.Option.{some};
 ghost use mathlib.Core.Path.{_≡_};
-ghost use Prim.Native.Nat.{_<_, _≤_};
 ghost use lib.ListN.{length, drop};
 ghost use Rattle.context.specs.Calls.{Call};
 ghost use Rattle.history.specs.Demand3.{History};
 ghost use Rattle.records.specs.Encoding.{callOf, recordCall};
 ghost use Rattle.records.specs.Perform.{Performs};
-ghost use Rattle.runner.specs.Lists.{recordLength, firstCall};
-ghost use Rattle.runner.specs.Run.{Steps, Continues, Runs};
+ghost use Rattle.runner.specs.Lists.{recordLength, nextSize};
+ghost use Rattle.runner.specs.Run.{Changes, Continues, Runs};
 
 fn perform(
     c: Context,
@@ -69,6 +68,52 @@ fn perform(
     draw_records::drawn(draw_records::make_draw(c, &store[..], code, w, bytes, &mut out[..]))
 }
 
+// The context after the call of a record. A list needs no more of the answer, and copying it would cost more than the call.
+fn changed(
+    c: Context,
+    store: &mut [u8],
+    code: u32,
+    w: &[u32],
+    bytes: &[u8],
+    out: &mut [f32],
+) -> Context
+    ensures { λ r. ⌜ Changes c (now (store .entry)) (now (out .entry)) r (now (store .exit)) (now (out .exit)) (callOf (now (bytes .entry)) (length (now (out .entry))) code (now (w .entry))) ⌝ }
+{
+    if code == 0x10 {
+        let r = gles::set_matrix_mode(c, words::word_at(w, 0));
+        return r.context;
+    }
+    if code < 0x20 {
+        let r = records::make_matrix(c, code, words::matrix_floats(w));
+        return r.context;
+    }
+    if code < 0x30 {
+        let r = buffer_records::make_buffer(c, &mut store[..], code, w, bytes);
+        return r.context;
+    }
+    if code < 0x36 {
+        let a = words::word_at(w, 0);
+        let b = words::word_at(w, 1);
+        let r = records::make_array(c, code, a, b, words::word_at(w, 2), words::word_at(w, 3));
+        return r.context;
+    }
+    if code < 0x40 {
+        let r = records::make_attribute(c, code, words::word_at(w, 0), words::four_floats(w));
+        return r.context;
+    }
+    if code < 0x50 {
+        let a = words::word_at(w, 0);
+        let r = records::make_pipeline(c, code, a, words::word_at(w, 1), words::four_floats(w));
+        return r.context;
+    }
+    if code == 0x50 {
+        let r = records::make_take_error(c);
+        return r.context;
+    }
+    let r = draw_records::make_draw(c, &store[..], code, w, bytes, &mut out[..]);
+    r.context
+}
+
 // Makes the call of a code and its words. A call that borrows bytes has them from `bytes`, a draw its output from the start of `out`.
 pub fn make_call(
     c: Context,
@@ -89,13 +134,6 @@ pub fn make_call(
         };
     }
     perform(c, &mut store[..], code, w, bytes, &mut out[..])
-}
-
-// After a record: where the next one starts, and how many there can be still.
-struct StepReply {
-    place: usize,
-    left: usize,
-    context: Context,
 }
 
 // After a list: how many words were read, and the context. The list was read whole where that is its length.
@@ -120,52 +158,18 @@ fn record_length(words: &[u32], place: usize) -> usize
     if 2 + n <= rest.len() { 2 + n } else { 0 }
 }
 
-// Makes the call of the record that starts at a place.
-fn next_call(
-    c: Context,
-    store: &mut [u8],
-    words: &[u32],
-    place: usize,
-    left: usize,
-    bytes: &[u8],
-    out: &mut [f32],
-) -> StepReply
-    requires { ⌜ 0 < left ⌝ }
-    requires { ⌜ place ≤ length (now words) ⌝ }
-    ensures { λ r. ⌜ Steps (recordLength (drop place (now (words .entry)))) place left c (now (store .entry)) (now (out .entry)) r (now (store .exit)) (now (out .exit)) (firstCall (now (bytes .entry)) (length (now (out .entry))) (drop place (now (words .entry)))) ⌝ }
+// The same of a record that has a call; 0 where none follows.
+fn next_size(words: &[u32], place: usize) -> usize
+    ensures { λ r. ⌜ r ≡ nextSize (drop place (now (words .entry))) ⌝ }
 {
     let size = record_length(words, place);
-    if size == 0 {
-        return StepReply {
-            place,
-            left: 0,
-            context: c,
-        };
+    if size < 2 {
+        return 0;
     }
-    let start = place + 2;
-    let end = place + size;
-    let code = words::word_at(words, place);
-    let r = make_call(
-        c,
-        &mut store[..],
-        code,
-        &words[start..end],
-        bytes,
-        &mut out[..],
-    );
-    let context = r.context;
-    if r.known {
-        return StepReply {
-            place: end,
-            left: left - 1,
-            context,
-        };
+    if records::is_record(words::word_at(words, place), size - 2) {
+        return size;
     }
-    StepReply {
-        place,
-        left: 0,
-        context,
-    }
+    0
 }
 
 // Makes the calls of a list, one after the other.
@@ -182,10 +186,26 @@ pub fn run_on(
     let mut place: usize = 0;
     let mut left = words.len();
     while left > 0 {
-        let r = next_call(c, &mut store[..], words, place, left, bytes, &mut out[..]);
-        c = r.context;
-        place = r.place;
-        left = r.left;
+        let size = next_size(words, place);
+        if size == 0 {
+            return ListReply {
+                read: place,
+                context: c,
+            };
+        }
+        let start = place + 2;
+        let end = place + size;
+        let code = words::word_at(words, place);
+        c = changed(
+            c,
+            &mut store[..],
+            code,
+            &words[start..end],
+            bytes,
+            &mut out[..],
+        );
+        place = end;
+        left -= 1;
     }
     ListReply {
         read: place,

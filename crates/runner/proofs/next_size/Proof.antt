@@ -1,0 +1,27 @@
+-- `runner::next_size` meets its contract.
+use mathlib.Core.Path.{sym, _∙_}
+use denote.Ref.{now}
+use Rattle.runner.proofs.Running.{size-short, size-known, size-unknown}
+use borrow.Author.Needs.{needs}
+use Rattle.runner.proofs.next_size.Statement.{statement}
+use Rattle.runner.proofs.next_size.Tie as tie
+
+returns : tie.Need-returns
+returns c = size-short (now (c .before .before .before .args .words)) (c .before .before .before .args .place) (c .before .record-length .ensures) (c .if1 .taken)
+
+returns-2 : tie.Need-returns-2
+returns-2 c = size-known (now (c .before .before .before .before .before .before .args .words)) (c .before .before .before .before .before .before .args .place) (c .before .before .before .before .record-length .ensures) (c .before .before .before .if1 .left) (c .before .before .word-at .ensures) (sym (c .before .is-record .ensures) ∙ c .if2 .taken)
+
+returns-3 : tie.Need-returns-3
+returns-3 c = size-unknown (now (c .before .before .before .before .before .before .args .words)) (c .before .before .before .before .before .before .args .place) (c .before .before .before .before .record-length .ensures) (c .before .before .before .if1 .left) (c .before .before .word-at .ensures) (sym (c .before .is-record .ensures) ∙ c .if2 .left)
+
+pub next-size-spec : {M : Type 1} → statement M
+next-size-spec =
+    tie.close
+    (tie.spec
+    (λ c κs. search needs)
+    returns
+    (λ c κs. search needs)
+    (λ c κs. search needs)
+    returns-2
+    returns-3)
