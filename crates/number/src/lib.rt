@@ -101,17 +101,11 @@ pub fn bits_of_f32(x: f32) -> u32
     if x != x { 0x7fc0_0000 } else { f32::to_bits(x) }
 }
 
-// x with its sign bit cleared. -0.0 < 0.0 is false, so a zero has a branch of its own.
+// x with its sign bit cleared: by the bit pattern, since a branch on the sign of a coordinate is hard to predict.
 pub fn abs(x: f32) -> f32
     ensures { λ r. ⌜ r ≡ magnitude x ⌝ }
 {
-    if x < 0.0 {
-        return -x;
-    }
-    if x == 0.0 {
-        return 0.0;
-    }
-    x
+    f32_of_bits(bits_of_f32(x) % 0x8000_0000)
 }
 
 // The whole part of x as a u32: 0 for a NaN and below 1, the largest u32 above its range.

@@ -1,22 +1,23 @@
--- `number::abs` meets its contract: a negative number, a zero, and what is left.
-use mathlib.Core.Path.{sym, subst}
+-- `number::abs` meets its contract: the bit pattern without its sign bit.
+use Prim.Native.Nat.{ℕ, _%_, _^_}
+use mathlib.Core.Path.{sym, ap, subst, _∙_}
+use borrow.Author.Needs.{needs}
 use lib.Dec.{T}
-use lib.Ieee.{ofBits}
-use Rattle.number.proofs.Floats.{magnitude-negative, magnitude-zero, magnitude-other}
+use lib.Ieee.{binary32, ofBits, toBits}
+use lib.Ieee.Bits.{ofBits-toBits}
+use Rattle.number.specs.Numbers.{magnitude}
+use Rattle.number.proofs.Floats.{sign-bit-cleared}
 use Rattle.number.proofs.abs.Statement.{statement}
 use Rattle.number.proofs.abs.Tie as tie
 
 returns : tie.Need-returns
-unfolding ofBits
-returns c = magnitude-negative (c .before .args .x) (c .if1 .taken)
-
-returns-2 : tie.Need-returns-2
-unfolding ofBits
-returns-2 c = magnitude-zero (c .before .before .args .x) (subst T (sym (c .before .before .good .0 .1)) tt) (c .if2 .taken)
-
-returns-3 : tie.Need-returns-3
-unfolding ofBits
-returns-3 c = magnitude-other (c .before .before .args .x) (c .before .if1 .left) (c .if2 .left)
+returns c =
+    let start = c .before .before in
+    let x = start .args .x in
+    c .f32-of-bits .ensures
+    ∙ ap (λ (n : ℕ). ofBits binary32 (n % 2 ^ 31)) (c .before .bits-of-f32 .ensures)
+    ∙ sym (sign-bit-cleared (toBits binary32 x))
+    ∙ ap magnitude (ofBits-toBits binary32 x (subst T (sym (start .good .0 .1)) tt))
 
 pub abs-spec : {M : Type 1} → statement M
-abs-spec = tie.close (tie.spec returns returns-2 returns-3)
+abs-spec = tie.close (tie.spec (λ c κs. search needs) (λ c κs. search needs) returns)
