@@ -266,6 +266,11 @@ bufferSubData o target at bytes =
 unfoldable pub liveIn : List Slot → ℕ
 liveIn slots = count slotCount (λ k. ltb 0 (nameAt slots k))
 
+-- a slot is free, or within the limits
+pub record SlotFits (slot : Slot) (next : ℕ) : Type 0 where
+  pub small : 0 < slot .name → slot .len ≤ slotBytes
+  pub below : slot .name < next
+
 -- slot k is free, or within the limits and the first with its name
 pub record SlotSound (b : Buffers) (k : ℕ) : Type 0 where
   pub small : 0 < nameAt (b .slots) k → lenAt (b .slots) k ≤ slotBytes

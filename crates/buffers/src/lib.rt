@@ -6,7 +6,7 @@ ghost use lib.ListN.{length};
 ghost use lib.Seq.{paste};
 ghost use lib.Dec.{eqb, ltb};
 ghost use Rattle.number.specs.Decides.{Decides};
-ghost use Rattle.buffers.specs.Objects.{slotCount, lastName, slotOf, withSlot, lenAt, Bindable, Sound, SoundIs, SlotSound, IsFresh, objects, Made, Answers, bindBuffer, AnswersIn, bufferData, bufferSubData, padded, overwrite, isTarget, boundAt, deleteName, Steps, deleteBuffers, Generates, liveIn};
+ghost use Rattle.buffers.specs.Objects.{slotCount, lastName, slotOf, withSlot, lenAt, Bindable, Sound, SoundIs, SlotFits, IsFresh, objects, Made, Answers, bindBuffer, AnswersIn, bufferData, bufferSubData, padded, overwrite, isTarget, boundAt, deleteName, Steps, deleteBuffers, Generates, liveIn};
 
 // Limits: slots, bytes of a slot's block, bytes of the store, and the number that no name reaches.
 pub const SLOT_COUNT: usize = 16;
@@ -77,22 +77,27 @@ fn set_slot(b: Buffers, k: usize, name: u32, len: u32) -> Buffers
     out
 }
 
-// Slot k is free, or within the limits and the first with its name.
-fn slot_sound(b: Buffers, k: usize) -> bool
-    requires { ⌜ k < slotCount ⌝ }
-    ensures { λ r. ⌜ Decides (SlotSound b k) r ⌝ }
+// The slot is free, or within the limits. It is asked without the other slots: they would be copied for each.
+fn slot_fits(slot: Slot, next: u32) -> bool
+    ensures { λ r. ⌜ Decides (SlotFits slot next) r ⌝ }
 {
-    let slot = b.slots[k];
-    if b.next <= slot.name {
+    if next <= slot.name {
         return false;
     }
     if slot.name == 0 {
         return true;
     }
-    if SLOT_BYTES < slot.len as usize {
-        return false;
+    slot.len as usize <= SLOT_BYTES
+}
+
+// The name is 0, or slot k the first with it.
+fn is_first(b: Buffers, name: u32, k: usize) -> bool
+    ensures { λ r. ⌜ Decides (0 < name → slotOf (b .slots) name ≡ k) r ⌝ }
+{
+    if name == 0 {
+        return true;
     }
-    find_slot(b, slot.name) == k
+    find_slot(b, name) == k
 }
 
 // The name is 0 or live.
@@ -111,7 +116,11 @@ pub fn sound(b: Buffers) -> bool
 {
     let mut k: usize = 0;
     while k < SLOT_COUNT {
-        if !slot_sound(b, k) {
+        let slot = b.slots[k];
+        if !slot_fits(slot, b.next) {
+            return false;
+        }
+        if !is_first(b, slot.name, k) {
             return false;
         }
         k += 1;

@@ -2,6 +2,7 @@
 use Prim.Native.Nat.{ℕ, _≤_, _<_, _-_}
 use mathlib.Core.Path.{_≡_}
 use native.Mathlib.Omega.{arith}
+use borrow.Author.Needs.{needs}
 use borrow.Author.Tests.{not-true, not-false}
 use borrow.Author.Count.{below-more}
 use lib.ListN.{length, length-map}
@@ -16,19 +17,21 @@ Inv-loop b k₀ k = (k ≤ 16) × ((j : ℕ) → j < k → SlotSound b j)
 abbrev μ-loop : tie.MeasureT-loop
 μ-loop b k₀ k = 16 - k
 
-sized : (c : tie.Start Inv-loop μ-loop) → length (c .args .b .slots) ≡ 16
+sized : (c : tie.Start Inv-loop μ-loop) → length (c .args .t1 .slots) ≡ 16
 sized c = rw length-map at (c .good .0 .1 .1 .0 .1 .0 .1)
 
 loop-holds : tie.Need-loop-holds Inv-loop μ-loop
 loop-holds c = (omega arith, λ j h. absurd (omega arith))
 
-slot-sound-requires : tie.Need-slot-sound-requires Inv-loop μ-loop
-slot-sound-requires c κs = omega arith
-
 returns : tie.Need-returns Inv-loop μ-loop
 returns c =
-    sound-fails _ (sized (c .before .before .before .before))
-    (λ s. c .before .slot-sound .ensures .no (not-true _ (c .if1 .taken)) (slot-facts _ s (c .before .before .before .loop .k) (c .before .before .loop-test .taken)))
+    sound-fails _ (sized (c .before .before .before .before .before))
+    (λ s. let f = slot-facts _ s (c .before .before .before .before .loop .k) (c .before .before .before .loop-test .taken) in c .before .slot-fits .ensures .no (not-true _ (c .if1 .taken)) (record { small = f .small; below = f .below }))
+
+returns-2 : tie.Need-returns-2 Inv-loop μ-loop
+returns-2 c =
+    sound-fails _ (sized (c .before .before .before .before .before .before .before))
+    (λ s. c .before .is-first .ensures .no (not-true _ (c .if2 .taken)) (slot-facts _ s (c .before .before .before .before .before .before .loop .k) (c .before .before .before .before .before .loop-test .taken) .first))
 
 add-k : tie.Need-add-k Inv-loop μ-loop
 add-k c = omega arith
@@ -37,17 +40,19 @@ loop-less : tie.Need-loop-less Inv-loop μ-loop
 loop-less c = omega arith
 
 loop-again : tie.Need-loop-again Inv-loop μ-loop
-loop-again c = (omega arith, below-more _ _ (c .before .before .before .loop .inv .1) (c .before .slot-sound .ensures .yes (not-false _ (c .if1 .left))))
-
-returns-2 : tie.Need-returns-2 Inv-loop μ-loop
-returns-2 c = sound-fails _ (sized (c .before .before .before .before)) (λ s. c .before .bindable-name .ensures .no (not-true _ (c .if2 .taken)) (s .array-live))
+loop-again c =
+    let f = c .before .before .before .slot-fits .ensures .yes (not-false _ (c .before .before .if1 .left)) in
+    (omega arith, below-more _ _ (c .before .before .before .before .before .before .loop .inv .1) (record { small = f .small; below = f .below; first = c .before .is-first .ensures .yes (not-false _ (c .if2 .left)) }))
 
 returns-3 : tie.Need-returns-3 Inv-loop μ-loop
-returns-3 c =
+returns-3 c = sound-fails _ (sized (c .before .before .before .before)) (λ s. c .before .bindable-name .ensures .no (not-true _ (c .if3 .taken)) (s .array-live))
+
+returns-4 : tie.Need-returns-4 Inv-loop μ-loop
+returns-4 c =
     record {
       decides =
           record {
-            yes = λ e. sound-facts (c .before .before .before .before .before .args .b) (λ j h. c .before .before .before .before .loop .inv .1 j (omega arith)) (c .before .before .bindable-name .ensures .yes (not-false _ (c .before .if2 .left))) (c .bindable-name2 .ensures .yes e);
+            yes = λ e. sound-facts (c .before .before .before .before .before .args .t1) (λ j h. c .before .before .before .before .loop .inv .1 j (omega arith)) (c .before .before .bindable-name .ensures .yes (not-false _ (c .before .if3 .left))) (c .bindable-name2 .ensures .yes e);
             no = λ e s. c .bindable-name2 .ensures .no e (s .element-live);
           };
       slots = sized (c .before .before .before .before .before);
@@ -56,4 +61,20 @@ returns-3 c =
 pub sound-spec : {M : Type 1} → statement M
 sound-spec =
     tie.close
-    (tie.spec Inv-loop μ-loop loop-holds slot-sound-requires returns add-k loop-less loop-again (λ c κs. tt) returns-2 (λ c κs. tt) returns-3)
+    (tie.spec
+    Inv-loop
+    μ-loop
+    loop-holds
+    (λ c. search needs)
+    (λ c. search needs)
+    (λ c κs. search needs)
+    returns
+    (λ c κs. search needs)
+    returns-2
+    add-k
+    loop-less
+    loop-again
+    (λ c κs. search needs)
+    returns-3
+    (λ c κs. search needs)
+    returns-4)
