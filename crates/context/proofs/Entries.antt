@@ -6,11 +6,13 @@ use mathlib.Core.Option.{some, none}
 use mathlib.Core.Path.{_≡_, refl, sym, ap, subst, _∙_}
 use Prim.Native.Nat.{ℕ, _+_, _<_}
 use native.Mathlib.Omega.{arith}
-use lib.Dec.{ltb}
+use borrow.Author.Tests.{le-ltb, ne-eqb}
+use lib.Dec.{eqb, ltb}
 use lib.Ieee.{Float}
 use lib.ListN.{length}
 use Rattle.number.specs.Decides.{Decides}
 use Rattle.number.specs.Tables.{lookup}
+use Rattle.matrix.specs.Matrix.{product}
 use Rattle.stack.specs.Stack as stack
 use Rattle.stack.specs.declared.MatrixStack.{MatrixStack}
 use Rattle.stack.specs.declared.StackAnswer.{StackAnswer}
@@ -36,12 +38,13 @@ use Rattle.draw.specs.declared.Drawn.{Drawn}
 use Rattle.context.specs.declared.MatrixMode.{MatrixMode}
 use Rattle.context.specs.declared.Stacks.{Stacks}
 use Rattle.context.specs.declared.Context.{Context}
+use Rattle.context.specs.declared.Currents.{Currents}
 use Rattle.context.specs.declared.Reply.{Reply}
 use Rattle.context.specs.State.{stackAt, view, Sound, SoundApart, Fresh}
 use Rattle.context.specs.Calls as calls
 use Rattle.context.specs.Calls.{BufferCall, gen, bind, delete, bufferData, bufferSubData, Call, isUpload, isBind, borrowsStore}
 use Rattle.context.specs.Rules.{matrixModes, sameMode, bufferAnswer, drawing, slotAfter}
-use Rattle.context.specs.Contract.{putStack, putMode, putStacks, putBuffers, putArrays, putAttributes, putPipeline, putError, noted, Valid, RefusalKeeps, Follows, Did, Does, Drew, reply, Settled, sceneFor, drawCall}
+use Rattle.context.specs.Contract.{currentAt, putCurrent, currentsOf, withCurrent, putCurrents, putStack, putMode, putStacks, putBuffers, putArrays, putAttributes, putPipeline, putError, noted, Valid, RefusalKeeps, Follows, Did, Does, Drew, reply, Settled, sceneFor, drawCall}
 
 -- ---- soundness
 
@@ -170,12 +173,80 @@ module _ (k : stack.MatrixCall) (c : Context) (h : Sound c) where
         refusal = λ q. (inl (ap (λ t. noted (new .number) (putStacks t c)) (ap (λ x. putStack (c .mode) x (c .stacks)) (stack-stays k old q) ∙ put-same (c .mode) (c .stacks))), refl);
       }
 
-pub matrix-does : (k : stack.MatrixCall) (c : Context) (t : MatrixStack) (a : StackAnswer) (out : Reply) → t ≡ stackAt (c .mode) (c .stacks) → a ≡ stack.stackAnswer k t
-    → Settled c (reply (a .number) (noted (a .number) (putStacks (putStack (c .mode) (a .stack) (c .stacks)) c))) out → Does (calls.matrix k) c (out .number) (out .context)
-matrix-does k c t a out d e g =
-    settled-does (calls.matrix k) c refl _ out
-    (subst (λ x. Settled c (reply (x .number) (noted (x .number) (putStacks (putStack (c .mode) (x .stack) (c .stacks)) c))) out) (e ∙ ap (stack.stackAnswer k) d) g)
-    (matrix-follows k c)
+-- push and pop, on the stack of the mode in force
+pub stack-does : (k : stack.MatrixCall) (c : Context) (m : MatrixMode) (a : StackAnswer) → Sound c → c .mode ≡ m → a ≡ stack.stackAnswer k (stackAt m (c .stacks))
+    → Does (calls.matrix k) c (a .number) (noted (a .number) (putStacks (putStack m (a .stack) (c .stacks)) c))
+stack-does k c m a h e q =
+    does (calls.matrix k) c refl _ _ h
+    (subst (λ (x : MatrixMode × StackAnswer). (s : List ℕ) → Follows (calls.matrix k) c s (x .1 .number) (noted (x .1 .number) (putStacks (putStack (x .0) (x .1 .stack) (c .stacks)) c)) s)
+    (λ i. (e i, (ap (λ x. stack.stackAnswer k (stackAt x (c .stacks))) e ∙ sym q) i)) (matrix-follows k c h))
+
+module _ (u : stack.MatrixUpdate) (c : Context) where
+  abbrev in-force : MatrixStack
+  in-force = stackAt (c .mode) (c .stacks)
+
+  abbrev kept : Currents
+  kept = currentsOf (c .stacks)
+
+  -- what a call that updates a matrix answers on a sound stack
+  update-answer : stack.Sound in-force → stack.stackAnswer (stack.update u) in-force
+      ≡ cond (eqb (stack.updateNumber u) 0) (stack.answer 0 (stack.changed (stack.update u) in-force)) (stack.answer (stack.updateNumber u) in-force)
+  unfolding stack.stackAnswer
+  update-answer h = rw (le-ltb stack.limit (in-force .depth) (h .within))
+
+  -- the stacks with the answer put back, from the current matrices alone
+  put-current : (m : MatrixMode) (t : Stacks) (e : List Float) → putStack m (withCurrent (record { entries = e }) (stackAt m t)) t ≡ putCurrents (putCurrent m e (currentsOf t)) t
+  put-current MatrixMode.Modelview t e = refl
+  put-current MatrixMode.Projection t e = refl
+  put-current MatrixMode.Texture t e = refl
+
+  current-at : (m : MatrixMode) (t : Stacks) → stackAt m t .current .entries ≡ currentAt m (currentsOf t)
+  current-at MatrixMode.Modelview t = refl
+  current-at MatrixMode.Projection t = refl
+  current-at MatrixMode.Texture t = refl
+
+  abbrev answered : StackAnswer → Reply
+  answered a = reply (a .number) (noted (a .number) (putStacks (putStack (c .mode) (a .stack) (c .stacks)) c))
+
+  update-settled : (r out : Reply) → Settled c r out → (Sound c → r ≡ answered (stack.stackAnswer (stack.update u) in-force)) → Does (calls.matrix (stack.update u)) c (out .number) (out .context)
+  update-settled r out g e =
+      settled-does (calls.matrix (stack.update u)) c refl _ out (record { sound = λ h. g .sound h ∙ e h; unsound = g .unsound }) (matrix-follows (stack.update u) c)
+
+  -- a call that updates a matrix, by its new value
+  update-does : (m : Currents) (out : Reply) → stack.updateNumber u ≡ 0 → m ≡ putCurrent (c .mode) (stack.updated u (currentAt (c .mode) kept)) kept
+      → Settled c (reply 0 (noted 0 (putStacks (putCurrents m (c .stacks)) c))) out → Does (calls.matrix (stack.update u)) c (out .number) (out .context)
+  update-does m out z e g =
+      update-settled _ out g (λ h.
+      ap (λ (t : Stacks). reply 0 (noted 0 (putStacks t c)))
+      (ap (λ x. putCurrents x (c .stacks)) e ∙ sym (put-current (c .mode) (c .stacks) (stack.updated u (currentAt (c .mode) kept)))
+      ∙ ap (λ (x : List Float). putStack (c .mode) (withCurrent (record { entries = stack.updated u x }) in-force) (c .stacks)) (sym (current-at (c .mode) (c .stacks))))
+      ∙ sym (ap answered (update-answer (h .stacks (c .mode)) ∙ ap (λ (n : ℕ). cond (eqb n 0) (stack.answer 0 (stack.changed (stack.update u) in-force)) (stack.answer n in-force)) z))
+      )
+
+  -- the value may be had from a copy of the current matrices
+  abbrev Updated : Reply → Currents → Type 0
+  Updated out m = Settled c (reply 0 (noted 0 (putStacks (putCurrents m (c .stacks)) c))) out
+
+  pub load-does : (b : List Float) → ((x : List Float) → b ≡ stack.updated u x) → stack.updateNumber u ≡ 0 → {cs m : Currents} {out : Reply} → cs ≡ kept
+      → m ≡ putCurrent (c .mode) b cs → Updated out m → Does (calls.matrix (stack.update u)) c (out .number) (out .context)
+  load-does b f z {out = out} e q g = update-does _ out z (q ∙ (λ i. putCurrent (c .mode) (f (currentAt (c .mode) kept) i) (e i))) g
+
+  pub product-does : (b : List Float) → ((x : List Float) → product x b ≡ stack.updated u x) → stack.updateNumber u ≡ 0 → {cs m : Currents} {a : List Float} {out : Reply} → cs ≡ kept
+      → a ≡ b → m ≡ putCurrent (c .mode) (product (currentAt (c .mode) cs) a) cs → Updated out m → Does (calls.matrix (stack.update u)) c (out .number) (out .context)
+  product-does b f z {out = out} e d q g =
+      update-does _ out z
+      (q ∙ (λ i. putCurrent (c .mode) (product (currentAt (c .mode) (e i)) (d i)) (e i)) ∙ ap (λ (x : List Float). putCurrent (c .mode) x kept) (f (currentAt (c .mode) kept))) g
+
+  -- one that is refused with a number of its own
+  pub update-refused : (n : ℕ) (m : Currents) (out : Reply) → n ≡ stack.updateNumber u → (n ≡ 0 → ⊥) → m ≡ kept
+      → Settled c (reply n (noted n (putStacks (putCurrents m (c .stacks)) c))) out → Does (calls.matrix (stack.update u)) c (out .number) (out .context)
+  update-refused n m out z q e g =
+      update-settled _ out g (λ h.
+      ap (λ (x : Currents). reply n (noted n (putStacks (putCurrents x (c .stacks)) c))) e
+      ∙ ap (λ (t : Stacks). reply n (noted n (putStacks t c))) (sym (put-same (c .mode) (c .stacks)))
+      ∙ sym (ap answered (update-answer (h .stacks (c .mode)) ∙ ap (λ (x : ℕ). cond (eqb x 0) (stack.answer 0 (stack.changed (stack.update u) in-force)) (stack.answer x in-force)) (sym z)
+      ∙ ap (λ b. cond b (stack.answer 0 (stack.changed (stack.update u) in-force)) (stack.answer n in-force)) (ne-eqb n 0 q)))
+      )
 
 -- ---- mode calls
 

@@ -8,6 +8,7 @@ use Prim.Native.Nat.{ℕ}
 use lib.ListN.{length}
 use lib.Ieee.{Float}
 use Rattle.stack.specs.Stack.{MatrixCall, stackAnswer}
+use Rattle.stack.specs.declared.Matrix.{Matrix}
 use Rattle.stack.specs.declared.MatrixStack.{MatrixStack}
 use Rattle.buffers.specs.Objects.{storeBytes}
 use Rattle.buffers.specs.declared.Buffers.{Buffers}
@@ -23,6 +24,7 @@ use Rattle.context.specs.declared.MatrixMode.{MatrixMode}
 use Rattle.context.specs.declared.Stacks.{Stacks}
 use Rattle.context.specs.declared.Context.{Context}
 use Rattle.context.specs.declared.ModeChoice.{ModeChoice}
+use Rattle.context.specs.declared.Currents.{Currents}
 use Rattle.context.specs.declared.Reply.{Reply}
 use Rattle.context.specs.declared.DrawReply.{DrawReply}
 use Rattle.context.specs.State.{stackAt, view, Sound}
@@ -115,6 +117,31 @@ reply n c = record { number = n; context = c }
 abbrev pub modeOf : ModeChoice → Option MatrixMode
 modeOf (ModeChoice.Known m) = some m
 modeOf ModeChoice.Unknown = none
+
+-- the current matrices alone: that of a mode, one replaced, those of the stacks, and the stacks with all three replaced
+abbrev pub currentAt : MatrixMode → Currents → List Float
+currentAt MatrixMode.Modelview m = m .modelview .entries
+currentAt MatrixMode.Projection m = m .projection .entries
+currentAt MatrixMode.Texture m = m .texture .entries
+
+abbrev pub putCurrent : MatrixMode → List Float → Currents → Currents
+putCurrent MatrixMode.Modelview e m = record { modelview = record { entries = e }; projection = m .projection; texture = m .texture }
+putCurrent MatrixMode.Projection e m = record { modelview = m .modelview; projection = record { entries = e }; texture = m .texture }
+putCurrent MatrixMode.Texture e m = record { modelview = m .modelview; projection = m .projection; texture = record { entries = e } }
+
+abbrev pub currentsOf : Stacks → Currents
+currentsOf t = record { modelview = t .modelview .current; projection = t .projection .current; texture = t .texture .current }
+
+abbrev pub withCurrent : Matrix → MatrixStack → MatrixStack
+withCurrent m s = record { current = m; saved = s .saved; depth = s .depth }
+
+abbrev pub putCurrents : Currents → Stacks → Stacks
+putCurrents m t =
+    record {
+      modelview = withCurrent (m .modelview) (t .modelview);
+      projection = withCurrent (m .projection) (t .projection);
+      texture = withCurrent (m .texture) (t .texture);
+    }
 
 -- a sound context replies r, an unsound one 1
 pub record Settled (c : Context) (r : Reply) (out : Reply) : Type 0 where

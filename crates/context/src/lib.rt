@@ -12,18 +12,19 @@ use draw::Drawn;
 use draw::Scene;
 use pipeline::Pipeline;
 use pipeline::PipelineAnswer;
+use stack::Matrix;
 use stack::MatrixStack;
-use stack::StackAnswer;
 ghost use mathlib.Core.Path.{_≡_};
 ghost use Prim.Native.Nat.{_<_};
 ghost use Rattle.number.specs.Decides.{Decides};
 ghost use Rattle.number.specs.Tables.{lookup};
+ghost use Rattle.matrix.specs.Matrix.{product};
 ghost use Rattle.stack.specs.Stack as stack;
 ghost use Rattle.buffers.specs.Objects.{storeBytes};
 ghost use Rattle.arrays.specs.Arrays.{unitCount};
 ghost use Rattle.context.specs.State.{stackAt, Sound, SoundApart, Fresh};
 ghost use Rattle.context.specs.Rules.{matrixModes, slotAfter};
-ghost use Rattle.context.specs.Contract.{putStack, putStacks, putBuffers, putArrays, putAttributes, putPipeline, noted, modeOf, reply, Settled, sceneFor, drawReply};
+ghost use Rattle.context.specs.Contract.{currentAt, putCurrent, currentsOf, putCurrents, putStacks, putBuffers, putArrays, putAttributes, putPipeline, noted, modeOf, reply, Settled, sceneFor, drawReply};
 
 // The stack that matrix calls go to.
 pub enum MatrixMode {
@@ -106,27 +107,6 @@ pub fn matrix_mode(code: u32) -> ModeChoice
     }
 }
 
-// The stacks with that of a mode replaced.
-fn put_stack(stacks: Stacks, mode: MatrixMode, stack: MatrixStack) -> Stacks
-    ensures { λ r. ⌜ r ≡ putStack mode stack stacks ⌝ }
-{
-    let mut out = stacks;
-    match mode {
-        MatrixMode::Modelview => {
-            out.modelview = stack;
-            return out;
-        }
-        MatrixMode::Projection => {
-            out.projection = stack;
-            return out;
-        }
-        MatrixMode::Texture => {
-            out.texture = stack;
-            return out;
-        }
-    }
-}
-
 // Whether each stack is sound.
 fn stacks_sound(stacks: Stacks) -> bool
     ensures { λ r. ⌜ Decides ((m : MatrixMode) → stack.Sound (stackAt m stacks)) r ⌝ }
@@ -148,6 +128,55 @@ fn is_unit(unit: u32) -> bool
     ensures { λ r. ⌜ Decides (unit < unitCount) r ⌝ }
 {
     (unit as usize) < UNIT_COUNT
+}
+
+// The current matrices of the three stacks: what a call that updates a matrix changes.
+pub struct Currents {
+    pub modelview: Matrix,
+    pub projection: Matrix,
+    pub texture: Matrix,
+}
+
+impl Currents {
+    // The entries of the matrix of a mode.
+    pub fn entries(self, mode: MatrixMode) -> [f32; 16]
+        ensures { λ r. ⌜ r ≡ currentAt mode self ⌝ }
+    {
+        match mode {
+            MatrixMode::Modelview => self.modelview.entries,
+            MatrixMode::Projection => self.projection.entries,
+            MatrixMode::Texture => self.texture.entries,
+        }
+    }
+
+    // The matrix of a mode replaced.
+    pub fn put(self, mode: MatrixMode, entries: [f32; 16]) -> Currents
+        ensures { λ r. ⌜ r ≡ putCurrent mode entries self ⌝ }
+    {
+        let m = Matrix { entries };
+        let mut out = self;
+        match mode {
+            MatrixMode::Modelview => {
+                out.modelview = m;
+                return out;
+            }
+            MatrixMode::Projection => {
+                out.projection = m;
+                return out;
+            }
+            MatrixMode::Texture => {
+                out.texture = m;
+                return out;
+            }
+        }
+    }
+
+    // The matrix of a mode multiplied on the right.
+    pub fn multiply(self, mode: MatrixMode, m: [f32; 16]) -> Currents
+        ensures { λ r. ⌜ r ≡ putCurrent mode (product (currentAt mode self) m) self ⌝ }
+    {
+        self.put(mode, matrix::multiply(self.entries(mode), m))
+    }
 }
 
 impl Context {
@@ -201,19 +230,6 @@ impl Context {
         buffers::sound(buffers)
     }
 
-    // The stack of the mode in force.
-    pub fn stack_in_force(self) -> MatrixStack
-        ensures { λ r. ⌜ r ≡ stackAt (self .mode) (self .stacks) ⌝ }
-    {
-        let mode = self.mode;
-        let stacks = self.stacks;
-        match mode {
-            MatrixMode::Modelview => stacks.modelview,
-            MatrixMode::Projection => stacks.projection,
-            MatrixMode::Texture => stacks.texture,
-        }
-    }
-
     // The reply of a context that is not sound, or for a store of another length.
     pub fn refuse(self) -> Reply
         ensures { λ r. ⌜ r ≡ reply 1 self ⌝ }
@@ -224,18 +240,43 @@ impl Context {
         }
     }
 
-    // The reply of a matrix call: the stack of the mode in force replaced.
-    pub fn answer_stack(self, a: StackAnswer) -> Reply
-        ensures { λ r. ⌜ Settled self (reply (a .number) (noted (a .number) (putStacks (putStack (self .mode) (a .stack) (self .stacks)) self))) r ⌝ }
+    // The current matrices.
+    pub fn currents(self) -> Currents
+        ensures { λ r. ⌜ r ≡ currentsOf (self .stacks) ⌝ }
+    {
+        let stacks = self.stacks;
+        let modelview = stacks.modelview.current;
+        let projection = stacks.projection.current;
+        let texture = stacks.texture.current;
+        Currents {
+            modelview,
+            projection,
+            texture,
+        }
+    }
+
+    // The reply of a call that updates a matrix.
+    pub fn answer_currents(self, number: u32, m: Currents) -> Reply
+        ensures { λ r. ⌜ Settled self (reply number (noted number (putStacks (putCurrents m (self .stacks)) self))) r ⌝ }
     {
         if !self.is_sound() {
             return self.refuse();
         }
-        let number = a.number;
-        let stack = a.stack;
-        let mode = self.mode;
         let old = self.stacks;
-        let stacks = put_stack(old, mode, stack);
+        let mut modelview = old.modelview;
+        let mut projection = old.projection;
+        let mut texture = old.texture;
+        let view = m.modelview;
+        let lens = m.projection;
+        let coordinates = m.texture;
+        modelview.current = view;
+        projection.current = lens;
+        texture.current = coordinates;
+        let stacks = Stacks {
+            modelview,
+            projection,
+            texture,
+        };
         let error = slot_after(number, self.error);
         let mut out = self;
         out.stacks = stacks;

@@ -6,8 +6,10 @@ use context::Context;
 use context::DrawReply;
 use context::ErrorReply;
 use context::GenReply;
+use context::MatrixMode;
 use context::ModeChoice;
 use context::Reply;
+use context::Stacks;
 ghost use mathlib.Core.Path.{_≡_};
 ghost use lib.ListN.{length};
 ghost use Rattle.stack.specs.Stack.{MatrixCall, MatrixUpdate};
@@ -61,72 +63,224 @@ pub fn set_matrix_mode(c: Context, mode: u32) -> Reply
 pub fn load_identity(c: Context) -> Reply
     ensures { λ r. ⌜ Does (Call.matrix (MatrixCall.update MatrixUpdate.loadIdentity)) c (r .number) (r .context) ⌝ }
 {
-    let stack = c.stack_in_force();
-    c.answer_stack(stack.load_identity())
+    let mode = c.mode;
+    let currents = c.currents();
+    c.answer_currents(0, currents.put(mode, matrix::IDENTITY))
 }
 
 pub fn load_matrix(c: Context, m: [f32; 16]) -> Reply
     ensures { λ r. ⌜ Does (Call.matrix (MatrixCall.update (MatrixUpdate.load m))) c (r .number) (r .context) ⌝ }
 {
-    let stack = c.stack_in_force();
-    c.answer_stack(stack.load(m))
+    let mode = c.mode;
+    let currents = c.currents();
+    c.answer_currents(0, currents.put(mode, m))
 }
 
 pub fn mult_matrix(c: Context, m: [f32; 16]) -> Reply
     ensures { λ r. ⌜ Does (Call.matrix (MatrixCall.update (MatrixUpdate.mult m))) c (r .number) (r .context) ⌝ }
 {
-    let stack = c.stack_in_force();
-    c.answer_stack(stack.mult(m))
+    let mode = c.mode;
+    let currents = c.currents();
+    c.answer_currents(0, currents.multiply(mode, m))
 }
 
 pub fn push_matrix(c: Context) -> Reply
     ensures { λ r. ⌜ Does (Call.matrix MatrixCall.push) c (r .number) (r .context) ⌝ }
 {
-    let stack = c.stack_in_force();
-    c.answer_stack(lent_stack::pushed(stack))
+    if !c.is_sound() {
+        return c.refuse();
+    }
+    let mode = c.mode;
+    let old = c.stacks;
+    match mode {
+        MatrixMode::Modelview => {
+            let stack = old.modelview;
+            let a = lent_stack::pushed(stack);
+            let modelview = a.stack;
+            let projection = old.projection;
+            let texture = old.texture;
+            let stacks = Stacks {
+                modelview,
+                projection,
+                texture,
+            };
+            let error = context::slot_after(a.number, c.error);
+            let mut out = c;
+            out.stacks = stacks;
+            out.error = error;
+            Reply {
+                number: a.number,
+                context: out,
+            }
+        }
+        MatrixMode::Projection => {
+            let stack = old.projection;
+            let a = lent_stack::pushed(stack);
+            let projection = a.stack;
+            let modelview = old.modelview;
+            let texture = old.texture;
+            let stacks = Stacks {
+                modelview,
+                projection,
+                texture,
+            };
+            let error = context::slot_after(a.number, c.error);
+            let mut out = c;
+            out.stacks = stacks;
+            out.error = error;
+            Reply {
+                number: a.number,
+                context: out,
+            }
+        }
+        MatrixMode::Texture => {
+            let stack = old.texture;
+            let a = lent_stack::pushed(stack);
+            let texture = a.stack;
+            let modelview = old.modelview;
+            let projection = old.projection;
+            let stacks = Stacks {
+                modelview,
+                projection,
+                texture,
+            };
+            let error = context::slot_after(a.number, c.error);
+            let mut out = c;
+            out.stacks = stacks;
+            out.error = error;
+            Reply {
+                number: a.number,
+                context: out,
+            }
+        }
+    }
 }
 
 pub fn pop_matrix(c: Context) -> Reply
     ensures { λ r. ⌜ Does (Call.matrix MatrixCall.pop) c (r .number) (r .context) ⌝ }
 {
-    let stack = c.stack_in_force();
-    c.answer_stack(lent_stack::popped(stack))
+    if !c.is_sound() {
+        return c.refuse();
+    }
+    let mode = c.mode;
+    let old = c.stacks;
+    match mode {
+        MatrixMode::Modelview => {
+            let stack = old.modelview;
+            let a = lent_stack::popped(stack);
+            let modelview = a.stack;
+            let projection = old.projection;
+            let texture = old.texture;
+            let stacks = Stacks {
+                modelview,
+                projection,
+                texture,
+            };
+            let error = context::slot_after(a.number, c.error);
+            let mut out = c;
+            out.stacks = stacks;
+            out.error = error;
+            Reply {
+                number: a.number,
+                context: out,
+            }
+        }
+        MatrixMode::Projection => {
+            let stack = old.projection;
+            let a = lent_stack::popped(stack);
+            let projection = a.stack;
+            let modelview = old.modelview;
+            let texture = old.texture;
+            let stacks = Stacks {
+                modelview,
+                projection,
+                texture,
+            };
+            let error = context::slot_after(a.number, c.error);
+            let mut out = c;
+            out.stacks = stacks;
+            out.error = error;
+            Reply {
+                number: a.number,
+                context: out,
+            }
+        }
+        MatrixMode::Texture => {
+            let stack = old.texture;
+            let a = lent_stack::popped(stack);
+            let texture = a.stack;
+            let modelview = old.modelview;
+            let projection = old.projection;
+            let stacks = Stacks {
+                modelview,
+                projection,
+                texture,
+            };
+            let error = context::slot_after(a.number, c.error);
+            let mut out = c;
+            out.stacks = stacks;
+            out.error = error;
+            Reply {
+                number: a.number,
+                context: out,
+            }
+        }
+    }
 }
 
 pub fn translate(c: Context, x: f32, y: f32, z: f32) -> Reply
     ensures { λ r. ⌜ Does (Call.matrix (MatrixCall.update (MatrixUpdate.translate x y z))) c (r .number) (r .context) ⌝ }
 {
-    let stack = c.stack_in_force();
-    c.answer_stack(stack.translate(x, y, z))
+    let mode = c.mode;
+    let currents = c.currents();
+    c.answer_currents(0, currents.multiply(mode, matrix::translate(x, y, z)))
 }
 
 pub fn scale(c: Context, x: f32, y: f32, z: f32) -> Reply
     ensures { λ r. ⌜ Does (Call.matrix (MatrixCall.update (MatrixUpdate.scale x y z))) c (r .number) (r .context) ⌝ }
 {
-    let stack = c.stack_in_force();
-    c.answer_stack(stack.scale(x, y, z))
+    let mode = c.mode;
+    let currents = c.currents();
+    c.answer_currents(0, currents.multiply(mode, matrix::scale(x, y, z)))
 }
 
 // By the cosine, the sine and the unit axis.
 pub fn rotate(c: Context, cosine: f32, sine: f32, x: f32, y: f32, z: f32) -> Reply
     ensures { λ r. ⌜ Does (Call.matrix (MatrixCall.update (MatrixUpdate.rotate cosine sine x y z))) c (r .number) (r .context) ⌝ }
 {
-    let stack = c.stack_in_force();
-    c.answer_stack(stack.rotate(cosine, sine, x, y, z))
+    let mode = c.mode;
+    let currents = c.currents();
+    c.answer_currents(
+        0,
+        currents.multiply(mode, matrix::rotate(cosine, sine, x, y, z)),
+    )
 }
 
 pub fn frustum(c: Context, l: f32, r: f32, b: f32, t: f32, n: f32, f: f32) -> Reply
     ensures { λ a. ⌜ Does (Call.matrix (MatrixCall.update (MatrixUpdate.frustum l r b t n f))) c (a .number) (a .context) ⌝ }
 {
-    let stack = c.stack_in_force();
-    c.answer_stack(stack.frustum(l, r, b, t, n, f))
+    let number = matrix::frustum_number(l, r, b, t, n, f);
+    let mode = c.mode;
+    let currents = c.currents();
+    if number != 0 {
+        return c.answer_currents(number, currents);
+    }
+    c.answer_currents(
+        0,
+        currents.multiply(mode, matrix::frustum(l, r, b, t, n, f)),
+    )
 }
 
 pub fn ortho(c: Context, l: f32, r: f32, b: f32, t: f32, n: f32, f: f32) -> Reply
     ensures { λ a. ⌜ Does (Call.matrix (MatrixCall.update (MatrixUpdate.ortho l r b t n f))) c (a .number) (a .context) ⌝ }
 {
-    let stack = c.stack_in_force();
-    c.answer_stack(stack.ortho(l, r, b, t, n, f))
+    let number = matrix::ortho_number(l, r, b, t, n, f);
+    let mode = c.mode;
+    let currents = c.currents();
+    if number != 0 {
+        return c.answer_currents(number, currents);
+    }
+    c.answer_currents(0, currents.multiply(mode, matrix::ortho(l, r, b, t, n, f)))
 }
 
 // The first of n names, one after the other; 0 where none is made.

@@ -17,20 +17,29 @@ pub struct CallReply {
 
 // ---- the calls of a group
 
-pub fn make_matrix(c: Context, code: u32, f: [f32; 16]) -> Reply
-    ensures { λ r. ⌜ Makes (Call.matrix (matrixOf code f)) c (r .number) (r .context) ⌝ }
+// The calls that update a matrix, apart from push and pop, for which a stack is copied.
+pub fn make_update(c: Context, code: u32, f: [f32; 16]) -> Reply
+    ensures { λ r. ⌜ Makes (Call.matrix (MatrixCall.update (updateOf code f))) c (r .number) (r .context) ⌝ }
 {
     match code {
         0x11 => gles::load_identity(c),
         0x12 => gles::load_matrix(c, f),
         0x13 => gles::mult_matrix(c, f),
-        0x14 => gles::push_matrix(c),
-        0x15 => gles::pop_matrix(c),
         0x16 => gles::translate(c, f[0], f[1], f[2]),
         0x17 => gles::scale(c, f[0], f[1], f[2]),
         0x18 => gles::rotate(c, f[0], f[1], f[2], f[3], f[4]),
         0x1a => gles::frustum(c, f[0], f[1], f[2], f[3], f[4], f[5]),
         _ => gles::ortho(c, f[0], f[1], f[2], f[3], f[4], f[5]),
+    }
+}
+
+pub fn make_matrix(c: Context, code: u32, f: [f32; 16]) -> Reply
+    ensures { λ r. ⌜ Makes (Call.matrix (matrixOf code f)) c (r .number) (r .context) ⌝ }
+{
+    match code {
+        0x14 => gles::push_matrix(c),
+        0x15 => gles::pop_matrix(c),
+        _ => make_update(c, code, f),
     }
 }
 

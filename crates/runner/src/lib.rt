@@ -68,52 +68,6 @@ fn perform(
     draw_records::drawn(draw_records::make_draw(c, &store[..], code, w, bytes, &mut out[..]))
 }
 
-// The context after the call of a record. A list needs no more of the answer, and copying it would cost more than the call.
-fn changed(
-    c: Context,
-    store: &mut [u8],
-    code: u32,
-    w: &[u32],
-    bytes: &[u8],
-    out: &mut [f32],
-) -> Context
-    ensures { λ r. ⌜ Changes c (now (store .entry)) (now (out .entry)) r (now (store .exit)) (now (out .exit)) (callOf (now (bytes .entry)) (length (now (out .entry))) code (now (w .entry))) ⌝ }
-{
-    if code == 0x10 {
-        let r = gles::set_matrix_mode(c, words::word_at(w, 0));
-        return r.context;
-    }
-    if code < 0x20 {
-        let r = records::make_matrix(c, code, words::matrix_floats(w));
-        return r.context;
-    }
-    if code < 0x30 {
-        let r = buffer_records::make_buffer(c, &mut store[..], code, w, bytes);
-        return r.context;
-    }
-    if code < 0x36 {
-        let a = words::word_at(w, 0);
-        let b = words::word_at(w, 1);
-        let r = records::make_array(c, code, a, b, words::word_at(w, 2), words::word_at(w, 3));
-        return r.context;
-    }
-    if code < 0x40 {
-        let r = records::make_attribute(c, code, words::word_at(w, 0), words::four_floats(w));
-        return r.context;
-    }
-    if code < 0x50 {
-        let a = words::word_at(w, 0);
-        let r = records::make_pipeline(c, code, a, words::word_at(w, 1), words::four_floats(w));
-        return r.context;
-    }
-    if code == 0x50 {
-        let r = records::make_take_error(c);
-        return r.context;
-    }
-    let r = draw_records::make_draw(c, &store[..], code, w, bytes, &mut out[..]);
-    r.context
-}
-
 // Makes the call of a code and its words. A call that borrows bytes has them from `bytes`, a draw its output from the start of `out`.
 pub fn make_call(
     c: Context,
@@ -196,14 +150,53 @@ pub fn run_on(
         let start = place + 2;
         let end = place + size;
         let code = words::word_at(words, place);
-        c = changed(
-            c,
-            &mut store[..],
-            code,
-            &words[start..end],
-            bytes,
-            &mut out[..],
-        );
+        let w = &words[start..end];
+        if code == 0x10 {
+            let r = gles::set_matrix_mode(c, words::word_at(w, 0));
+            c = r.context;
+        } else if code == 0x14 {
+            let r = gles::push_matrix(c);
+            c = r.context;
+        } else if code == 0x15 {
+            let r = gles::pop_matrix(c);
+            c = r.context;
+        } else if code < 0x20 {
+            let r = records::make_update(c, code, words::matrix_floats(w));
+            c = r.context;
+        } else if code == 0x20 {
+            let r = gles::gen_buffers(c, words::long_at(w, 0));
+            c = r.context;
+        } else if code == 0x21 {
+            let r = gles::bind_buffer(c, words::word_at(w, 0), words::word_at(w, 1));
+            c = r.context;
+        } else if code == 0x22 {
+            let r = gles::delete_buffers(c, w);
+            c = r.context;
+        } else if code == 0x23 {
+            let r = buffer_records::make_data(c, &mut store[..], w, bytes);
+            c = r.context;
+        } else if code < 0x30 {
+            let r = buffer_records::make_sub_data(c, &mut store[..], w, bytes);
+            c = r.context;
+        } else if code < 0x36 {
+            let a = words::word_at(w, 0);
+            let b = words::word_at(w, 1);
+            let r = records::make_array(c, code, a, b, words::word_at(w, 2), words::word_at(w, 3));
+            c = r.context;
+        } else if code < 0x40 {
+            let r = records::make_attribute(c, code, words::word_at(w, 0), words::four_floats(w));
+            c = r.context;
+        } else if code < 0x50 {
+            let a = words::word_at(w, 0);
+            let r = records::make_pipeline(c, code, a, words::word_at(w, 1), words::four_floats(w));
+            c = r.context;
+        } else if code == 0x50 {
+            let r = records::make_take_error(c);
+            c = r.context;
+        } else {
+            let r = draw_records::make_draw(c, &store[..], code, w, bytes, &mut out[..]);
+            c = r.context;
+        }
         place = end;
         left -= 1;
     }

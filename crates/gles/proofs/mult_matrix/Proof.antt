@@ -1,12 +1,18 @@
--- `gles::mult_matrix` meets its contract, from the call on the stack of the mode in force.
-use Rattle.context.proofs.Entries.{matrix-does}
+-- `gles::mult_matrix` meets its contract, from the current matrix of the mode in force.
+use mathlib.Core.Path.{refl}
+use Rattle.context.proofs.Entries.{product-does}
 use borrow.Author.Needs.{needs}
 use Rattle.gles.proofs.mult_matrix.Statement.{statement}
 use Rattle.gles.proofs.mult_matrix.Tie as tie
 
 returns : tie.Need-returns
-returns c = matrix-does _ _ _ _ _ (c .before .before .stack-in-force .ensures) (c .before .mult .ensures) (c .answer-stack .ensures)
+returns c = product-does _ _ _ (λ x. refl) refl (c .before .before .currents .ensures) refl (c .before .multiply .ensures) (c .answer-currents .ensures)
 
 pub mult-matrix-spec : {M : Type 1} → statement M
 mult-matrix-spec =
-    tie.close (tie.spec (λ c κs. search needs) (λ c κs. search needs) (λ c κs. search needs) returns)
+    tie.close
+    (tie.spec
+    (λ c κs. search needs)
+    (λ c κs. search needs)
+    (λ c κs. search needs)
+    returns)

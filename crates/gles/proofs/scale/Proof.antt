@@ -1,12 +1,19 @@
--- `gles::scale` meets its contract, from the call on the stack of the mode in force.
-use Rattle.context.proofs.Entries.{matrix-does}
+-- `gles::scale` meets its contract, from the current matrix of the mode in force.
+use mathlib.Core.Path.{refl}
+use Rattle.context.proofs.Entries.{product-does}
 use borrow.Author.Needs.{needs}
 use Rattle.gles.proofs.scale.Statement.{statement}
 use Rattle.gles.proofs.scale.Tie as tie
 
 returns : tie.Need-returns
-returns c = matrix-does _ _ _ _ _ (c .before .before .stack-in-force .ensures) (c .before .scale .ensures) (c .answer-stack .ensures)
+returns c = product-does _ _ _ (λ x. refl) refl (c .before .before .before .currents .ensures) (c .before .before .scale .ensures) (c .before .multiply .ensures) (c .answer-currents .ensures)
 
 pub scale-spec : {M : Type 1} → statement M
 scale-spec =
-    tie.close (tie.spec (λ c κs. search needs) (λ c κs. search needs) (λ c κs. search needs) returns)
+    tie.close
+    (tie.spec
+    (λ c κs. search needs)
+    (λ c κs. search needs)
+    (λ c κs. search needs)
+    (λ c κs. search needs)
+    returns)
