@@ -39,6 +39,10 @@ matrixRows f =
 unfoldable pub matrixOf : ℕ → List Float → MatrixCall
 matrixOf code f = rowOr (matrixRows f) code (update (ortho (at f 0) (at f 1) (at f 2) (at f 3) (at f 4) (at f 5)))
 
+-- for the code, which has push and pop apart: their codes count as the last
+abbrev pub updateCode : ℕ → ℕ
+updateCode code = cond (eqb code 0x14) 0x1b (cond (eqb code 0x15) 0x1b code)
+
 -- w: the words
 abbrev pub dataOf : List ℕ → List ℕ → BufferCall
 dataOf bytes w = bufferData (wordAt w 0) (longAt w 1) (bytesAt bytes (longAt w 4) (longAt w 6)) (wordAt w 3)

@@ -1,97 +1,28 @@
--- `records::make_matrix` meets its contract: each arm makes the call of its row.
-use mathlib.Core.Path.{ap}
-use Rattle.context.specs.Calls.{matrix}
-use Rattle.history.specs.Demand3.{by-load-identity, by-load-matrix, by-mult-matrix, by-push-matrix, by-pop-matrix, by-translate, by-scale, by-rotate, by-frustum, by-ortho}
-use Rattle.records.specs.Encoding.{matrixOf, matrixRows}
-use Rattle.records.proofs.Records.{last-row, makes-is}
+-- `records::make_matrix` meets its contract: push, pop, or the call of `make_update`.
+use mathlib.Core.Path.{_≡_}
+use Prim.Native.Nat.{ℕ}
+use borrow.Author.Tests.{ne-eqb}
 use borrow.Author.Needs.{needs}
+use Rattle.history.specs.Demand3.{by-push-matrix, by-pop-matrix}
+use Rattle.records.specs.Encoding.{matrixOf, updateCode}
 use Rattle.records.proofs.make_matrix.Statement.{statement}
 use Rattle.records.proofs.make_matrix.Tie as tie
 
 returns : tie.Need-returns
 unfolding matrixOf
-returns c = rw (c .before .match .keys1) (λ s. by-load-identity (c .load-identity .ensures))
+returns c = rw (c .before .match .keys1) (λ s. by-push-matrix (c .push-matrix .ensures))
 
 returns-2 : tie.Need-returns-2
 unfolding matrixOf
-returns-2 c = rw (c .before .match .keys2) (λ s. by-load-matrix (c .load-matrix .ensures))
+returns-2 c = rw (c .before .match .keys2) (λ s. by-pop-matrix (c .pop-matrix .ensures))
+
+-- a code of neither stays
+stays : (n : ℕ) → (n ≡ 0x14 → ⊥) → (n ≡ 0x15 → ⊥) → updateCode n ≡ n
+stays n p q = rw (ne-eqb n 0x14 p, ne-eqb n 0x15 q)
 
 returns-3 : tie.Need-returns-3
-unfolding matrixOf
-returns-3 c = rw (c .before .match .keys3) (λ s. by-mult-matrix (c .mult-matrix .ensures))
-
-returns-4 : tie.Need-returns-4
-unfolding matrixOf
-returns-4 c = rw (c .before .match .keys4) (λ s. by-push-matrix (c .push-matrix .ensures))
-
-returns-5 : tie.Need-returns-5
-unfolding matrixOf
-returns-5 c = rw (c .before .match .keys5) (λ s. by-pop-matrix (c .pop-matrix .ensures))
-
-returns-6 : tie.Need-returns-6
-unfolding matrixOf
-returns-6 c = rw (c .before .match .keys6) (λ s. by-translate (c .translate .ensures))
-
-returns-7 : tie.Need-returns-7
-unfolding matrixOf
-returns-7 c = rw (c .before .match .keys7) (λ s. by-scale (c .scale .ensures))
-
-returns-8 : tie.Need-returns-8
-unfolding matrixOf
-returns-8 c = rw (c .before .match .keys8) (λ s. by-rotate (c .rotate .ensures))
-
-returns-9 : tie.Need-returns-9
-unfolding matrixOf
-returns-9 c = rw (c .before .match .keys9) (λ s. by-frustum (c .frustum .ensures))
-
-returns-10 : tie.Need-returns-10
-unfolding matrixOf
-returns-10 c = makes-is (ap matrix (last-row (matrixRows (c .before .before .args .t3)) _ _ (c .before .match .rest))) (λ s. by-ortho (c .ortho .ensures))
+returns-3 c = rw (← stays _ (c .before .match .rest .0 .1) (c .before .match .rest .1)) (c .make-update .ensures)
 
 pub make-matrix-spec : {M : Type 1} → statement M
 make-matrix-spec =
-    tie.close
-    (tie.spec
-    (λ c κs. search needs)
-    (λ c κs. search needs)
-    (λ c κs. search needs)
-    (λ c κs. search needs)
-    (λ c κs. search needs)
-    (λ c. search needs)
-    (λ c. search needs)
-    (λ c. search needs)
-    (λ c κs. search needs)
-    (λ c. search needs)
-    (λ c. search needs)
-    (λ c. search needs)
-    (λ c κs. search needs)
-    (λ c. search needs)
-    (λ c. search needs)
-    (λ c. search needs)
-    (λ c. search needs)
-    (λ c. search needs)
-    (λ c κs. search needs)
-    (λ c. search needs)
-    (λ c. search needs)
-    (λ c. search needs)
-    (λ c. search needs)
-    (λ c. search needs)
-    (λ c. search needs)
-    (λ c κs. search needs)
-    (λ c. search needs)
-    (λ c. search needs)
-    (λ c. search needs)
-    (λ c. search needs)
-    (λ c. search needs)
-    (λ c. search needs)
-    (λ c κs. search needs)
-    returns
-    returns-2
-    returns-3
-    returns-4
-    returns-5
-    returns-6
-    returns-7
-    returns-8
-    returns-9
-    returns-10)
+    tie.close (tie.spec (λ c κs. search needs) (λ c κs. search needs) (λ c κs. search needs) returns returns-2 returns-3)
