@@ -2,7 +2,7 @@
 use mathlib.Core.Bool.{true, false}
 use mathlib.Core.List.{List}
 use mathlib.Core.Option.{some}
-use mathlib.Core.Path.{_≡_, refl, sym, subst}
+use mathlib.Core.Path.{_≡_, refl, sym, ap, subst, _∙_}
 use Prim.Native.Nat.{ℕ, _<_, _≤_}
 use native.Mathlib.Omega.{arith}
 use borrow.Author.Tests.{lt-ltb, le-ltb, ne-eqb, eq-eqb}
@@ -11,10 +11,12 @@ use lib.Ieee.{Float}
 use Rattle.context.specs.declared.Context.{Context}
 use Rattle.context.specs.declared.DrawReply.{DrawReply}
 use Rattle.draw.specs.Scene.{DrawCall}
-use Rattle.context.specs.Calls.{BufferCall, buffer, array, Call, matrix, mode, object, attribute, pipeline, takeError, draw}
+use Rattle.stack.specs.Stack.{push, pop}
+use Rattle.context.specs.Calls.{BufferCall, gen, bind, delete, buffer, array, Call, matrix, mode, object, attribute, pipeline, takeError, draw}
+use Rattle.history.specs.Demand3.{Made}
 use Rattle.records.specs.declared.CallReply.{CallReply}
-use Rattle.words.specs.Words.{wordAt, fourFloats, matrixFloats}
-use Rattle.records.specs.Encoding.{matrixOf, bufferOf, arrayOf, attributeOf, pipelineOf, sourceOf, drawOfWords, callOf, isRecord, recordCall}
+use Rattle.words.specs.Words.{wordAt, longAt, fourFloats, matrixFloats}
+use Rattle.records.specs.Encoding.{matrixOf, updateCode, dataOf, subDataOf, bufferOf, arrayOf, attributeOf, pipelineOf, sourceOf, drawOfWords, callOf, isRecord, recordCall}
 use Rattle.records.specs.Perform.{Makes, isDraw, valueOf, Gives, DrewIn, replyOf, called, drew, Performs, was-made, was-unknown}
 use Rattle.buffer_records.proofs.Answers.{Answers}
 use Rattle.runner.specs.Run.{Changes}
@@ -33,6 +35,39 @@ module _ (bytes : List ℕ) (room code : ℕ) (w : List ℕ) where
   pub is-buffer : 0x20 ≤ code → code < 0x30 → object (buffer (bufferOf bytes code w)) ≡ callOf bytes room code w
   unfolding callOf
   is-buffer l h = rw (ne-eqb code 0x10 (λ e. absurd (omega arith)), le-ltb code 0x20 l, lt-ltb code 0x30 h)
+
+  -- a matrix or buffer call by its own code
+  pub is-push : code ≡ 0x14 → matrix push ≡ callOf bytes room code w
+  unfolding callOf matrixOf
+  is-push e = rw e
+
+  pub is-pop : code ≡ 0x15 → matrix pop ≡ callOf bytes room code w
+  unfolding callOf matrixOf
+  is-pop e = rw e
+
+  pub is-update : (code ≡ 0x14 → ⊥) → (code ≡ 0x15 → ⊥) → (code ≡ 0x10 → ⊥) → code < 0x20 → matrix (matrixOf (updateCode code) (matrixFloats w)) ≡ callOf bytes room code w
+  is-update p q n h = ap (λ (k : ℕ). matrix (matrixOf k (matrixFloats w))) (rw (ne-eqb code 0x14 p, ne-eqb code 0x15 q)) ∙ is-matrix n h
+
+  pub is-gen : code ≡ 0x20 → object (buffer (gen (longAt w 0))) ≡ callOf bytes room code w
+  unfolding callOf bufferOf
+  is-gen e = rw e
+
+  pub is-bind : code ≡ 0x21 → object (buffer (bind (wordAt w 0) (wordAt w 1))) ≡ callOf bytes room code w
+  unfolding callOf bufferOf
+  is-bind e = rw e
+
+  pub is-delete : code ≡ 0x22 → object (buffer (delete w)) ≡ callOf bytes room code w
+  unfolding callOf bufferOf
+  is-delete e = rw e
+
+  pub is-data : code ≡ 0x23 → object (buffer (dataOf bytes w)) ≡ callOf bytes room code w
+  unfolding callOf bufferOf
+  is-data e = rw e
+
+  pub is-sub-data : 0x20 ≤ code → code < 0x30 → (code ≡ 0x20 → ⊥) → (code ≡ 0x21 → ⊥) → (code ≡ 0x22 → ⊥) → (code ≡ 0x23 → ⊥)
+      → object (buffer (subDataOf bytes w)) ≡ callOf bytes room code w
+  unfolding bufferOf
+  is-sub-data l h p q r t = rw (← is-buffer l h, ne-eqb code 0x20 p, ne-eqb code 0x21 q, ne-eqb code 0x22 r, ne-eqb code 0x23 t)
 
   module _ (l : 0x30 ≤ code) where
     pub is-array : code < 0x36 → object (array (arrayOf code (wordAt w 0) (wordAt w 1) (wordAt w 2) (wordAt w 3))) ≡ callOf bytes room code w
@@ -92,14 +127,8 @@ changes-is : {k k′ : Call} {c c1 : Context} {s s1 : List ℕ} {out out1 : List
 changes-is {c = c} {c1 = c1} {s = s} {s1 = s1} {out = out} {out1 = out1} e p = subst (λ (k : Call). Changes c s out c1 s1 out1 k) e p
 
 module _ {k′ : Call} {c : Context} {out : List Float} where
-  pub changes : {k : Call} {n : ℕ} {c1 : Context} {s : List ℕ} → k ≡ k′ → Makes k c n c1 → isDraw k ≡ false → 0 ≡ valueOf k c n → Changes c s out c1 s out k′
-  changes {n = n} {s = s} e m f v = changes-is e (record { number = n; value = 0; made = called (m s) f v refl })
-
-  pub changes-value : {k : Call} {r : CallReply} {s : List ℕ} → k ≡ k′ → (r .known ≡ true) × Gives k c (r .number) (r .value) (r .context) → isDraw k ≡ false → Changes c s out (r .context) s out k′
-  changes-value {r = r} {s = s} e g f = changes-is e (record { number = r .number; value = r .value; made = called (g .1 .makes s) f (g .1 .value-is) refl })
-
-  pub changes-buffer : {k : BufferCall} {r : CallReply} {s s1 : List ℕ} → object (buffer k) ≡ k′ → Answers k c s r s1 → Changes c s out (r .context) s1 out k′
-  changes-buffer {r = r} e a = changes-is e (record { number = r .number; value = r .value; made = called (a .0 .1) refl (a .1) refl })
+  pub changes : {k : Call} {n : ℕ} {c1 : Context} {s s1 : List ℕ} → k ≡ k′ → Made c s k n c1 s1 → isDraw k ≡ false → Changes c s out c1 s1 out k′
+  changes {k = k} {n = n} e m f = changes-is e (record { number = n; value = valueOf k c n; made = called m f refl refl })
 
   pub changes-draw : {d : DrawCall} {s : List ℕ} {out1 : List Float} {a : DrawReply} → draw d ≡ k′ → DrewIn d c s out a out1 → Changes c s out (a .context) s out1 k′
   changes-draw {a = a} e m = changes-is e (record { number = a .number; value = a .count; made = drew m refl })

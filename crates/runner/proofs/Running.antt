@@ -178,6 +178,17 @@ performed-made : {c c1 : Context} {s s1 : List ℕ} {out out1 : List Float} {n v
 performed-made (called m f v e) = m
 performed-made {c = c} {c1 = c1} {s = s} {n = n} {k = k} (drew m e) = subst (λ (t : List ℕ). Made c s k n c1 t) (sym e) (by-draw (m .made))
 
+-- after one of several ways a call was made, and the lengths stay
+abbrev pub Stepped : Context → List ℕ → List Float → Call → Context → List ℕ → List Float → Type 0
+Stepped c s out k c1 s1 out1 = Changes c s out c1 s1 out1 k × (length s1 ≡ length s) × (length out1 ≡ length out)
+
+pub stayed : {c c1 : Context} {s : List ℕ} {out : List Float} {k : Call} → Changes c s out c1 s out k → Stepped c s out k c1 s out
+stayed p = (p, refl, refl)
+
+pub joined : {c c1 c2 : Context} {s s1 s2 : List ℕ} {out out1 out2 : List Float} {k : Call} → Stepped c s out k c1 s1 out1 → s2 ≡ s1 → out2 ≡ out1 → c2 ≡ c1 → Stepped c s out k c2 s2 out2
+joined {c = c} {s = s} {out = out} {k = k} p e f g =
+    subst (λ (x : Context × List ℕ × List Float). Stepped c s out k (x .0) (x .1) (x .2)) (λ i. (sym g i, sym e i, sym f i)) p
+
 -- what has been made, and what is left to make, are the whole list
 pub record Progress (start : List Call) (words bytes : List ℕ) (out₀ : List Float) (place left : ℕ) (c : Context) (s : List ℕ) (out : List Float) : Type 0 where
   pub before : List Call

@@ -7,6 +7,8 @@ ghost use mathlib.Core.List.{List};
 ghost use mathlib.Core.Option.{some};
 ghost use mathlib.Core.Path.{_≡_};
 ghost use lib.ListN.{length, drop};
+ghost use lib.Ieee.{Float};
+ghost use Prim.Native.Nat.{_≤_, _<_};
 ghost use Rattle.context.specs.Calls.{Call};
 ghost use Rattle.history.specs.Demand3.{History};
 ghost use Rattle.records.specs.Encoding.{callOf, recordCall};
@@ -126,6 +128,65 @@ fn next_size(words: &[u32], place: usize) -> usize
     0
 }
 
+// The loop over a list makes the calls whose context is copied most itself: a function between costs one more copy. The other calls are made by
+// the two functions below, which give back the context alone.
+
+// The context after a buffer call other than buffer_data.
+fn after_buffer_call(c: Context, store: &mut [u8], code: u32, w: &[u32], bytes: &[u8]) -> Context
+    requires { ⌜ (0x20 ≤ code) × (code < 0x30) × (code ≡ 0x23 → ⊥) ⌝ }
+    ensures { λ r. ⌜ ((out : List Float) → Changes c (now (store .entry)) out r (now (store .exit)) out (callOf (now (bytes .entry)) (length out) code (now (w .entry)))) ⌝ }
+{
+    if code == 0x20 {
+        let r = gles::gen_buffers(c, words::long_at(w, 0));
+        return r.context;
+    }
+    if code == 0x21 {
+        let r = gles::bind_buffer(c, words::word_at(w, 0), words::word_at(w, 1));
+        return r.context;
+    }
+    if code == 0x22 {
+        let r = gles::delete_buffers(c, w);
+        return r.context;
+    }
+    let r = buffer_records::make_sub_data(c, &mut store[..], w, bytes);
+    r.context
+}
+
+// The context after a call that is no matrix, mode or buffer call.
+fn after_other_call(
+    c: Context,
+    store: &mut [u8],
+    code: u32,
+    w: &[u32],
+    bytes: &[u8],
+    out: &mut [f32],
+) -> Context
+    requires { ⌜ 0x30 ≤ code ⌝ }
+    ensures { λ r. ⌜ Changes c (now (store .entry)) (now (out .entry)) r (now (store .exit)) (now (out .exit)) (callOf (now (bytes .entry)) (length (now (out .entry))) code (now (w .entry))) ⌝ }
+{
+    if code < 0x36 {
+        let a = words::word_at(w, 0);
+        let b = words::word_at(w, 1);
+        let r = records::make_array(c, code, a, b, words::word_at(w, 2), words::word_at(w, 3));
+        return r.context;
+    }
+    if code < 0x40 {
+        let r = records::make_attribute(c, code, words::word_at(w, 0), words::four_floats(w));
+        return r.context;
+    }
+    if code < 0x50 {
+        let a = words::word_at(w, 0);
+        let r = records::make_pipeline(c, code, a, words::word_at(w, 1), words::four_floats(w));
+        return r.context;
+    }
+    if code == 0x50 {
+        let r = records::make_take_error(c);
+        return r.context;
+    }
+    let r = draw_records::make_draw(c, &store[..], code, w, bytes, &mut out[..]);
+    r.context
+}
+
 // Makes the calls of a list, one after the other.
 pub fn run_on(
     c: Context,
@@ -151,51 +212,25 @@ pub fn run_on(
         let end = place + size;
         let code = words::word_at(words, place);
         let w = &words[start..end];
-        if code == 0x10 {
-            let r = gles::set_matrix_mode(c, words::word_at(w, 0));
-            c = r.context;
-        } else if code == 0x14 {
+        if code == 0x14 {
             let r = gles::push_matrix(c);
             c = r.context;
         } else if code == 0x15 {
             let r = gles::pop_matrix(c);
             c = r.context;
+        } else if code == 0x10 {
+            let r = gles::set_matrix_mode(c, words::word_at(w, 0));
+            c = r.context;
         } else if code < 0x20 {
             let r = records::make_update(c, code, words::matrix_floats(w));
-            c = r.context;
-        } else if code == 0x20 {
-            let r = gles::gen_buffers(c, words::long_at(w, 0));
-            c = r.context;
-        } else if code == 0x21 {
-            let r = gles::bind_buffer(c, words::word_at(w, 0), words::word_at(w, 1));
-            c = r.context;
-        } else if code == 0x22 {
-            let r = gles::delete_buffers(c, w);
             c = r.context;
         } else if code == 0x23 {
             let r = buffer_records::make_data(c, &mut store[..], w, bytes);
             c = r.context;
         } else if code < 0x30 {
-            let r = buffer_records::make_sub_data(c, &mut store[..], w, bytes);
-            c = r.context;
-        } else if code < 0x36 {
-            let a = words::word_at(w, 0);
-            let b = words::word_at(w, 1);
-            let r = records::make_array(c, code, a, b, words::word_at(w, 2), words::word_at(w, 3));
-            c = r.context;
-        } else if code < 0x40 {
-            let r = records::make_attribute(c, code, words::word_at(w, 0), words::four_floats(w));
-            c = r.context;
-        } else if code < 0x50 {
-            let a = words::word_at(w, 0);
-            let r = records::make_pipeline(c, code, a, words::word_at(w, 1), words::four_floats(w));
-            c = r.context;
-        } else if code == 0x50 {
-            let r = records::make_take_error(c);
-            c = r.context;
+            c = after_buffer_call(c, &mut store[..], code, w, bytes);
         } else {
-            let r = draw_records::make_draw(c, &store[..], code, w, bytes, &mut out[..]);
-            c = r.context;
+            c = after_other_call(c, &mut store[..], code, w, bytes, &mut out[..]);
         }
         place = end;
         left -= 1;

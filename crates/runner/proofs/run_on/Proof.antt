@@ -1,14 +1,18 @@
 -- `runner::run_on` meets its contract: what is made and what is left are the whole list.
 use mathlib.Core.List.{List}
-use mathlib.Core.Path.{_≡_, refl, _∙_}
-use Prim.Native.Nat.{_≤_}
+use mathlib.Core.Logic.{⊎-elim}
+use mathlib.Core.Path.{_≡_, refl, ap, _∙_}
+use Prim.Native.Nat.{_≤_, _+_, _-_}
 use native.Mathlib.Omega.{arith}
 use borrow.Author.Needs.{needs}
-use denote.Ref.{now}
-use lib.ListN.{length}
-use Rattle.context.specs.Calls.{Call}
-use Rattle.history.specs.Demand3.{History}
-use Rattle.runner.proofs.Running.{next-inside, Progress, progress-start, progress-next, progress-stop, progress-done}
+use lib.Ieee.{Float}
+use lib.ListN.{length, take, drop}
+use Rattle.stack.specs.Stack.{push, pop}
+use Rattle.context.specs.Calls.{Call, matrix, mode}
+use Rattle.history.specs.Demand3.{History, by-set-matrix-mode, by-push-matrix, by-pop-matrix}
+use Rattle.records.specs.Encoding.{matrixOf, updateCode, callOf}
+use Rattle.runner.proofs.Calls.{is-mode, is-push, is-pop, is-update, is-data, changes}
+use Rattle.runner.proofs.Running.{next-inside, Progress, progress-start, progress-next, progress-stop, progress-done, Stepped, joined, stayed}
 use Rattle.runner.proofs.run_on.Statement.{statement}
 use Rattle.runner.proofs.run_on.Tie as tie
 
@@ -31,30 +35,42 @@ returns : tie.Need-returns Inv-loop μ-loop
 returns c = λ before h. progress-done (progress-stop (c .before .before .before .loop .inv .0 before h) (c .before .before .loop-test .taken) (c .before .next-size .ensures) (c .if1 .taken)) (omega arith)
 
 add-start : tie.Need-add-start Inv-loop μ-loop
-add-start c = let i = next-inside (now (c .before .before .before .before .before .before .before .before .args .words)) (now (c .before .before .before .before .before .before .before .before .args .bytes)) (c .before .before .before .loop .place) (c .before .next-size .result) 0 (c .before .next-size .ensures) (c .if1 .left) in omega (arith, i .0, i .1, c .before .before .before .before .before .before .before .before .good .1 .0)
+add-start c = let i = next-inside (c .before .before .before .before .before .before .before .before .args .words .now) (c .before .before .before .before .before .before .before .before .args .bytes .now) (c .before .before .before .loop .place) (c .before .next-size .result) 0 (c .before .next-size .ensures) (c .if1 .left) in omega (arith, i .0, i .1, c .before .before .before .before .before .before .before .before .good .1 .0)
 
 add-end : tie.Need-add-end Inv-loop μ-loop
-add-end c = let i = next-inside (now (c .before .before .before .before .before .before .before .before .args .words)) (now (c .before .before .before .before .before .before .before .before .args .bytes)) (c .before .before .before .loop .place) (c .before .next-size .result) 0 (c .before .next-size .ensures) (c .if1 .left) in omega (arith, i .0, i .1, c .before .before .before .before .before .before .before .before .good .1 .0)
+add-end c = let i = next-inside (c .before .before .before .before .before .before .before .before .args .words .now) (c .before .before .before .before .before .before .before .before .args .bytes .now) (c .before .before .before .loop .place) (c .before .next-size .result) 0 (c .before .next-size .ensures) (c .if1 .left) in omega (arith, i .0, i .1, c .before .before .before .before .before .before .before .before .good .1 .0)
 
-sub-changed : tie.Need-sub-changed Inv-loop μ-loop
-sub-changed c = let i = next-inside (now (c .before .before .before .before .before .before .before .before .before .before .args .words)) (now (c .before .before .before .before .before .before .before .before .before .before .args .bytes)) (c .before .before .before .before .before .loop .place) (c .before .before .before .next-size .result) 0 (c .before .before .before .next-size .ensures) (c .before .before .if1 .left) in omega (arith, i .0, i .1)
+sub-w : tie.Need-sub-w Inv-loop μ-loop
+sub-w c = let i = next-inside (c .before .before .before .before .before .before .before .before .before .args .words .now) (c .before .before .before .before .before .before .before .before .before .args .bytes .now) (c .before .before .before .before .loop .place) (c .before .before .next-size .result) 0 (c .before .before .next-size .ensures) (c .before .if1 .left) in omega (arith, i .0, i .1)
 
-part-changed-start : tie.Need-part-changed-start Inv-loop μ-loop
-part-changed-start c = let i = next-inside (now (c .before .before .before .before .before .before .before .before .before .before .args .words)) (now (c .before .before .before .before .before .before .before .before .before .before .args .bytes)) (c .before .before .before .before .before .loop .place) (c .before .before .before .next-size .result) 0 (c .before .before .before .next-size .ensures) (c .before .before .if1 .left) in omega (arith, i .0, i .1)
+part-w-start : tie.Need-part-w-start Inv-loop μ-loop
+part-w-start c = let i = next-inside (c .before .before .before .before .before .before .before .before .before .args .words .now) (c .before .before .before .before .before .before .before .before .before .args .bytes .now) (c .before .before .before .before .loop .place) (c .before .before .next-size .result) 0 (c .before .before .next-size .ensures) (c .before .if1 .left) in omega (arith, i .0, i .1)
 
-part-changed-end : tie.Need-part-changed-end Inv-loop μ-loop
-part-changed-end c = let i = next-inside (now (c .before .before .before .before .before .before .before .before .before .before .args .words)) (now (c .before .before .before .before .before .before .before .before .before .before .args .bytes)) (c .before .before .before .before .before .loop .place) (c .before .before .before .next-size .result) 0 (c .before .before .before .next-size .ensures) (c .before .before .if1 .left) in omega (arith, i .0, i .1)
+part-w-end : tie.Need-part-w-end Inv-loop μ-loop
+part-w-end c = let i = next-inside (c .before .before .before .before .before .before .before .before .before .args .words .now) (c .before .before .before .before .before .before .before .before .before .args .bytes .now) (c .before .before .before .before .loop .place) (c .before .before .next-size .result) 0 (c .before .before .next-size .ensures) (c .before .if1 .left) in omega (arith, i .0, i .1)
 
 loop-less : tie.Need-loop-less Inv-loop μ-loop
-loop-less c = omega (arith, c .before .before .before .before .before .before .before .before .before .before .before .loop-test .taken)
+loop-less c = omega (arith, c .before .before .before .before .before .loop-test .taken)
+
+sub-left : tie.Need-sub-left Inv-loop μ-loop
+sub-left c = omega (arith, c .before .before .before .before .before .loop-test .taken)
 
 loop-again : tie.Need-loop-again Inv-loop μ-loop
 loop-again c =
-    let i = next-inside (now (c .before .before .before .before .before .before .before .before .before .before .before .before .before .before .before .before .before .args .words)) (now (c .before .before .before .before .before .before .before .before .before .before .before .before .before .before .before .before .before .args .bytes)) (c .before .before .before .before .before .before .before .before .before .before .before .before .loop .place) (c .before .before .before .before .before .before .before .before .before .before .next-size .result) 0 (c .before .before .before .before .before .before .before .before .before .before .next-size .ensures) (c .before .before .before .before .before .before .before .before .before .if1 .left) in (
-      λ before h. progress-next (c .before .before .before .before .before .before .before .before .before .before .before .before .loop .inv .0 before h) (c .before .before .before .before .before .before .before .before .before .before .before .loop-test .taken) (c .before .before .before .before .before .before .before .before .before .before .before .before .loop .inv .3) (c .before .before .before .before .before .before .before .before .before .before .next-size .ensures) (c .before .before .before .before .before .before .before .before .before .if1 .left) (c .before .before .before .before .before .before .before .before .word-at .ensures) (c .before .before .before .before .changed .ensures),
+    let i = next-inside (c .before .before .before .before .before .before .before .before .before .before .before .args .words .now) (c .before .before .before .before .before .before .before .before .before .before .before .args .bytes .now) (c .before .before .before .before .before .before .loop .place) (c .before .before .before .before .next-size .result) 0 (c .before .before .before .before .next-size .ensures) (c .before .before .before .if1 .left) in
+    let made : Stepped (c .before .before .before .before .before .before .loop .c) (c .before .before .before .before .before .before .loop .store) (c .before .before .before .before .before .before .loop .out) (callOf (c .before .before .before .before .before .before .before .before .before .before .before .args .bytes .now) (length (c .before .before .before .before .before .before .loop .out)) (c .before .before .word-at .result) (take (c .before .before .before .before .before .before .loop .place + c .before .before .before .before .next-size .result - (c .before .before .before .before .before .before .loop .place + 2)) (drop (c .before .before .before .before .before .before .loop .place + 2) (c .before .before .before .before .before .before .before .before .before .before .before .args .words .now)))) (c .if2 .c) (c .if2 .store) (c .if2 .out) =
+    (⊎-elim (λ z. joined (stayed (changes (is-push (c .before .before .before .before .before .before .before .before .before .before .before .args .bytes .now) _ (c .before .before .word-at .result) _ (z .0 .taken)) (by-push-matrix (z .1 .ensures)) refl)) (z .3) (z .4) (z .5))
+    (⊎-elim (λ z. joined (stayed (changes (is-pop (c .before .before .before .before .before .before .before .before .before .before .before .args .bytes .now) _ (c .before .before .word-at .result) _ (z .1 .taken)) (by-pop-matrix (z .2 .ensures)) refl)) (z .4) (z .5) (z .6))
+    (⊎-elim (λ z. joined (stayed (changes (ap mode (z .3 .ensures) ∙ is-mode (c .before .before .before .before .before .before .before .before .before .before .before .args .bytes .now) _ (c .before .before .word-at .result) _ (z .2 .taken)) (by-set-matrix-mode (z .4 .ensures)) refl)) (z .6) (z .7) (z .8))
+    (⊎-elim (λ z. joined (stayed (changes (ap (λ (f : List Float). matrix (matrixOf (updateCode (c .before .before .word-at .result)) f)) (z .4 .ensures) ∙ is-update (c .before .before .before .before .before .before .before .before .before .before .before .args .bytes .now) _ (c .before .before .word-at .result) _ (z .0 .left) (z .1 .left) (z .2 .left) (z .3 .taken)) (z .5 .ensures _) refl)) (z .7) (z .8) (z .9))
+    (⊎-elim (λ z. joined (changes (is-data (c .before .before .before .before .before .before .before .before .before .before .before .args .bytes .now) _ (c .before .before .word-at .result) _ (z .4 .taken)) (z .6 .ensures) refl, z .6 .kept .1 .0, refl) (z .10) (z .11) (z .12))
+    (⊎-elim (λ z. joined (z .7 .ensures _, z .7 .kept .1 .0, refl) (z .10) (z .11) (z .12))
+    (λ z. joined (z .8 .ensures, z .8 .kept .1 .0, z .8 .kept .1 .1 .1 .1 .1 .0) (z .13) (z .14) (z .15)))))))) (c .if2 .came)
+    in (
+      λ before h. progress-next (c .before .before .before .before .before .before .loop .inv .0 before h) (c .before .before .before .before .before .loop-test .taken) (c .before .before .before .before .before .before .loop .inv .3) (c .before .before .before .before .next-size .ensures) (c .before .before .before .if1 .left) (c .before .before .word-at .ensures) (made .0),
       omega (arith, i .1),
-      c .before .before .before .before .changed .kept .1 .0 ∙ c .before .before .before .before .before .before .before .before .before .before .before .before .loop .inv .2,
-      c .before .before .before .before .changed .kept .1 .1 .1 .1 .1 .0 ∙ c .before .before .before .before .before .before .before .before .before .before .before .before .loop .inv .3,
+      made .1 ∙ c .before .before .before .before .before .before .loop .inv .2,
+      made .2 ∙ c .before .before .before .before .before .before .loop .inv .3,
     )
 
 same-length-3 : tie.Need-same-length-3 Inv-loop μ-loop
@@ -81,11 +97,19 @@ run-on-spec =
     add-end
     (λ c κs. search needs)
     (λ c. search needs)
-    sub-changed
-    part-changed-start
-    part-changed-end
+    sub-w
+    part-w-start
+    part-w-end
     (λ c κs. search needs)
-    (λ c. search needs)
+    (λ c κs. search needs)
+    (λ c κs. search needs)
+    (λ c κs. search needs)
+    (λ c κs. search needs)
+    (λ c κs. search needs)
+    (λ c κs. search needs)
+    (λ c κs. search needs)
+    (λ c κs. search needs)
+    sub-left
     loop-less
     loop-again
     same-length-3
