@@ -84,6 +84,7 @@ pub fn mult_matrix(c: Context, m: [f32; 16]) -> Reply
     c.answer_currents(0, currents.multiply(mode, m))
 }
 
+// Push and pop lend the stack of the mode in force. Each arm puts the answer together by itself: a function for the rest would copy the context.
 pub fn push_matrix(c: Context) -> Reply
     ensures { λ r. ⌜ Does (Call.matrix MatrixCall.push) c (r .number) (r .context) ⌝ }
 {
@@ -94,11 +95,11 @@ pub fn push_matrix(c: Context) -> Reply
     let old = c.stacks;
     match mode {
         MatrixMode::Modelview => {
-            let stack = old.modelview;
-            let a = lent_stack::pushed(stack);
-            let modelview = a.stack;
             let projection = old.projection;
             let texture = old.texture;
+            let view = old.modelview;
+            let a = lent_stack::pushed(view);
+            let modelview = a.stack;
             let stacks = Stacks {
                 modelview,
                 projection,
@@ -114,11 +115,11 @@ pub fn push_matrix(c: Context) -> Reply
             }
         }
         MatrixMode::Projection => {
-            let stack = old.projection;
-            let a = lent_stack::pushed(stack);
-            let projection = a.stack;
             let modelview = old.modelview;
             let texture = old.texture;
+            let lens = old.projection;
+            let a = lent_stack::pushed(lens);
+            let projection = a.stack;
             let stacks = Stacks {
                 modelview,
                 projection,
@@ -134,11 +135,11 @@ pub fn push_matrix(c: Context) -> Reply
             }
         }
         MatrixMode::Texture => {
-            let stack = old.texture;
-            let a = lent_stack::pushed(stack);
-            let texture = a.stack;
             let modelview = old.modelview;
             let projection = old.projection;
+            let coordinates = old.texture;
+            let a = lent_stack::pushed(coordinates);
+            let texture = a.stack;
             let stacks = Stacks {
                 modelview,
                 projection,
@@ -166,11 +167,11 @@ pub fn pop_matrix(c: Context) -> Reply
     let old = c.stacks;
     match mode {
         MatrixMode::Modelview => {
-            let stack = old.modelview;
-            let a = lent_stack::popped(stack);
-            let modelview = a.stack;
             let projection = old.projection;
             let texture = old.texture;
+            let view = old.modelview;
+            let a = lent_stack::popped(view);
+            let modelview = a.stack;
             let stacks = Stacks {
                 modelview,
                 projection,
@@ -186,11 +187,11 @@ pub fn pop_matrix(c: Context) -> Reply
             }
         }
         MatrixMode::Projection => {
-            let stack = old.projection;
-            let a = lent_stack::popped(stack);
-            let projection = a.stack;
             let modelview = old.modelview;
             let texture = old.texture;
+            let lens = old.projection;
+            let a = lent_stack::popped(lens);
+            let projection = a.stack;
             let stacks = Stacks {
                 modelview,
                 projection,
@@ -206,11 +207,11 @@ pub fn pop_matrix(c: Context) -> Reply
             }
         }
         MatrixMode::Texture => {
-            let stack = old.texture;
-            let a = lent_stack::popped(stack);
-            let texture = a.stack;
             let modelview = old.modelview;
             let projection = old.projection;
+            let coordinates = old.texture;
+            let a = lent_stack::popped(coordinates);
+            let texture = a.stack;
             let stacks = Stacks {
                 modelview,
                 projection,

@@ -57,20 +57,28 @@ sub-left c = omega (arith, c .before .before .before .before .before .loop-test 
 
 loop-again : tie.Need-loop-again Inv-loop μ-loop
 loop-again c =
-    let i = next-inside (c .before .before .before .before .before .before .before .before .before .before .before .args .words .now) (c .before .before .before .before .before .before .before .before .before .before .before .args .bytes .now) (c .before .before .before .before .before .before .loop .place) (c .before .before .before .before .next-size .result) 0 (c .before .before .before .before .next-size .ensures) (c .before .before .before .if1 .left) in
-    let made : Stepped (c .before .before .before .before .before .before .loop .c) (c .before .before .before .before .before .before .loop .store) (c .before .before .before .before .before .before .loop .out) (callOf (c .before .before .before .before .before .before .before .before .before .before .before .args .bytes .now) (length (c .before .before .before .before .before .before .loop .out)) (c .before .before .word-at .result) (take (c .before .before .before .before .before .before .loop .place + c .before .before .before .before .next-size .result - (c .before .before .before .before .before .before .loop .place + 2)) (drop (c .before .before .before .before .before .before .loop .place + 2) (c .before .before .before .before .before .before .before .before .before .before .before .args .words .now)))) (c .if2 .c) (c .if2 .store) (c .if2 .out) =
-    (⊎-elim (λ z. joined (stayed (changes (is-push (c .before .before .before .before .before .before .before .before .before .before .before .args .bytes .now) _ (c .before .before .word-at .result) _ (z .0 .taken)) (by-push-matrix (z .1 .ensures)) refl)) (z .3) (z .4) (z .5))
-    (⊎-elim (λ z. joined (stayed (changes (is-pop (c .before .before .before .before .before .before .before .before .before .before .before .args .bytes .now) _ (c .before .before .word-at .result) _ (z .1 .taken)) (by-pop-matrix (z .2 .ensures)) refl)) (z .4) (z .5) (z .6))
-    (⊎-elim (λ z. joined (stayed (changes (ap mode (z .3 .ensures) ∙ is-mode (c .before .before .before .before .before .before .before .before .before .before .before .args .bytes .now) _ (c .before .before .word-at .result) _ (z .2 .taken)) (by-set-matrix-mode (z .4 .ensures)) refl)) (z .6) (z .7) (z .8))
-    (⊎-elim (λ z. joined (stayed (changes (ap (λ (f : List Float). matrix (matrixOf (updateCode (c .before .before .word-at .result)) f)) (z .4 .ensures) ∙ is-update (c .before .before .before .before .before .before .before .before .before .before .before .args .bytes .now) _ (c .before .before .word-at .result) _ (z .0 .left) (z .1 .left) (z .2 .left) (z .3 .taken)) (z .5 .ensures _) refl)) (z .7) (z .8) (z .9))
-    (⊎-elim (λ z. joined (changes (is-data (c .before .before .before .before .before .before .before .before .before .before .before .args .bytes .now) _ (c .before .before .word-at .result) _ (z .4 .taken)) (z .6 .ensures) refl, z .6 .kept .1 .0, refl) (z .10) (z .11) (z .12))
+    let args = c .before .before .before .before .before .before .before .before .before .before .before .args in
+    let words = args .words .now in
+    let bytes = args .bytes .now in
+    let at = c .before .before .before .before .before .before .loop in
+    let size = c .before .before .before .before .next-size in
+    let is-one = c .before .before .before .if1 .left in
+    let code = c .before .before .word-at in
+    let i = next-inside words bytes (at .place) (size .result) 0 (size .ensures) is-one in
+    let w = take (at .place + size .result - (at .place + 2)) (drop (at .place + 2) words) in
+    let made : Stepped (at .c) (at .store) (at .out) (callOf bytes (length (at .out)) (code .result) w) (c .if2 .c) (c .if2 .store) (c .if2 .out) =
+    (⊎-elim (λ z. joined (stayed (changes (is-push bytes _ _ _ (z .0 .taken)) (by-push-matrix (z .1 .ensures)) refl)) (z .3) (z .4) (z .5))
+    (⊎-elim (λ z. joined (stayed (changes (is-pop bytes _ _ _ (z .1 .taken)) (by-pop-matrix (z .2 .ensures)) refl)) (z .4) (z .5) (z .6))
+    (⊎-elim (λ z. joined (stayed (changes (ap mode (z .3 .ensures) ∙ is-mode bytes _ _ _ (z .2 .taken)) (by-set-matrix-mode (z .4 .ensures)) refl)) (z .6) (z .7) (z .8))
+    (⊎-elim (λ z. joined (stayed (changes (ap (λ (f : List Float). matrix (matrixOf (updateCode (code .result)) f)) (z .4 .ensures) ∙ is-update bytes _ _ _ (z .0 .left) (z .1 .left) (z .2 .left) (z .3 .taken)) (z .5 .ensures _) refl)) (z .7) (z .8) (z .9))
+    (⊎-elim (λ z. joined (changes (is-data bytes _ _ _ (z .4 .taken)) (z .6 .ensures) refl, z .6 .kept .1 .0, refl) (z .10) (z .11) (z .12))
     (⊎-elim (λ z. joined (z .7 .ensures _, z .7 .kept .1 .0, refl) (z .10) (z .11) (z .12))
     (λ z. joined (z .8 .ensures, z .8 .kept .1 .0, z .8 .kept .1 .1 .1 .1 .1 .0) (z .13) (z .14) (z .15)))))))) (c .if2 .came)
     in (
-      λ before h. progress-next (c .before .before .before .before .before .before .loop .inv .0 before h) (c .before .before .before .before .before .loop-test .taken) (c .before .before .before .before .before .before .loop .inv .3) (c .before .before .before .before .next-size .ensures) (c .before .before .before .if1 .left) (c .before .before .word-at .ensures) (made .0),
+      λ before h. progress-next (at .inv .0 before h) (c .before .before .before .before .before .loop-test .taken) (at .inv .3) (size .ensures) is-one (code .ensures) (made .0),
       omega (arith, i .1),
-      made .1 ∙ c .before .before .before .before .before .before .loop .inv .2,
-      made .2 ∙ c .before .before .before .before .before .before .loop .inv .3,
+      made .1 ∙ at .inv .2,
+      made .2 ∙ at .inv .3,
     )
 
 same-length-3 : tie.Need-same-length-3 Inv-loop μ-loop
