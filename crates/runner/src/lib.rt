@@ -131,17 +131,13 @@ fn next_size(words: &[u32], place: usize) -> usize
 // The loop over a list makes the calls whose context is copied most itself: a function between costs one more copy. The other calls are made by
 // the two functions below, which give back the context alone.
 
-// The context after a buffer call other than buffer_data.
+// The context after gen_buffers, delete_buffers or buffer_sub_data.
 fn after_buffer_call(c: Context, store: &mut [u8], code: u32, w: &[u32], bytes: &[u8]) -> Context
-    requires { ⌜ (0x20 ≤ code) × (code < 0x30) × (code ≡ 0x23 → ⊥) ⌝ }
+    requires { ⌜ (0x20 ≤ code) × (code < 0x30) × (code ≡ 0x21 → ⊥) × (code ≡ 0x23 → ⊥) ⌝ }
     ensures { λ r. ⌜ ((out : List Float) → Changes c (now (store .entry)) out r (now (store .exit)) out (callOf (now (bytes .entry)) (length out) code (now (w .entry)))) ⌝ }
 {
     if code == 0x20 {
         let r = gles::gen_buffers(c, words::long_at(w, 0));
-        return r.context;
-    }
-    if code == 0x21 {
-        let r = gles::bind_buffer(c, words::word_at(w, 0), words::word_at(w, 1));
         return r.context;
     }
     if code == 0x22 {
@@ -223,6 +219,9 @@ pub fn run_on(
             c = r.context;
         } else if code < 0x20 {
             let r = records::make_update(c, code, words::matrix_floats(w));
+            c = r.context;
+        } else if code == 0x21 {
+            let r = gles::bind_buffer(c, words::word_at(w, 0), words::word_at(w, 1));
             c = r.context;
         } else if code == 0x23 {
             let r = buffer_records::make_data(c, &mut store[..], w, bytes);
