@@ -23,8 +23,9 @@ use Rattle.history.proofs.Demand3.{demand-3}
 use Rattle.words.specs.Words.{wordAt}
 use Rattle.records.specs.Encoding.{callOf, isRecord, recordCall}
 use Rattle.records.specs.Perform.{isDraw, Performed, called, drew}
+use Rattle.runner.specs.declared.ListReply.{ListReply}
 use Rattle.runner.specs.Lists.{recordLength, nextSize, firstCall, onward, decodeTo, wordsTo, decode, wordsRead}
-use Rattle.runner.specs.Run.{Changes, outputAfter, outputFrom, Continues}
+use Rattle.runner.specs.Run.{Changes, InTurn, no-call, one-more, MakesList, outputAfter, outputFrom}
 
 -- ---- the record at a place
 
@@ -190,19 +191,18 @@ joined {c = c} {s = s} {out = out} {k = k} p e f g =
     subst (λ (x : Context × List ℕ × List Float). Stepped c s out k (x .0) (x .1) (x .2)) (λ i. (sym g i, sym e i, sym f i)) p
 
 -- what has been made, and what is left to make, are the whole list
-pub record Progress (start : List Call) (words bytes : List ℕ) (out₀ : List Float) (place left : ℕ) (c : Context) (s : List ℕ) (out : List Float) : Type 0 where
+pub record Progress (c₀ : Context) (s₀ words bytes : List ℕ) (out₀ : List Float) (place left : ℕ) (c : Context) (s : List ℕ) (out : List Float) : Type 0 where
   pub before : List Call
-  pub history : History before c s
-  pub calls : before ++ decodeTo left bytes (length out₀) (drop place words) ≡ start ++ decode bytes (length out₀) words
+  pub made : InTurn c₀ s₀ out₀ before c s out
+  pub calls : before ++ decodeTo left bytes (length out₀) (drop place words) ≡ decode bytes (length out₀) words
   pub read : place + wordsTo left bytes (length out₀) (drop place words) ≡ wordsRead bytes (length out₀) words
-  pub output : outputFrom before (decodeTo left bytes (length out₀) (drop place words)) out ≡ outputFrom start (decode bytes (length out₀) words) out₀
 
-module _ {start : List Call} {words bytes : List ℕ} {out₀ : List Float} {place m : ℕ} {c : Context} {s : List ℕ} {out : List Float} (g : Progress start words bytes out₀ place (suc m) c s out) where
+module _ {c₀ : Context} {s₀ words bytes : List ℕ} {out₀ : List Float} {place m : ℕ} {c : Context} {s : List ℕ} {out : List Float} (g : Progress c₀ s₀ words bytes out₀ place (suc m) c s out) where
   -- one call more
   progress-made : {k : Call} {n value : ℕ} {c1 : Context} {s1 : List ℕ} {out1 : List Float} → firstCall bytes (length out₀) (drop place words) ≡ some k → Performed c s out n value c1 s1 out1 k
-      → Progress start words bytes out₀ (place + recordLength (drop place words)) m c1 s1 out1
-  unfolding decodeTo wordsTo outputFrom
-  progress-made {k = k} {out1 = out1} f p =
+      → Progress c₀ s₀ words bytes out₀ (place + recordLength (drop place words)) m c1 s1 out1
+  unfolding decodeTo wordsTo
+  progress-made {k = k} f p =
       let room = length out₀ in
       let size = recordLength (drop place words) in
       let on : drop size (drop place words) ≡ drop (place + size) words = drop-drop size place words in
@@ -214,61 +214,82 @@ module _ {start : List Call} {words bytes : List ℕ} {out₀ : List Float} {pla
       in
       record {
         before = g .before ++ (k ∷ []);
-        history = then (g .history) (performed-made p);
+        made = one-more (g .made) p;
         calls = append-assoc (g .before) (k ∷ []) (decodeTo m bytes room (drop (place + size) words)) ∙ ap (λ (l : List Call). g .before ++ l) (sym more) ∙ g .calls;
         read = add-assoc place size (wordsTo m bytes room (drop (place + size) words)) ∙ ap (λ (n : ℕ). place + n) (sym taken) ∙ g .read;
-        output =
-            ap (λ (o : List Float). outputFrom (g .before ++ (k ∷ [])) (decodeTo m bytes room (drop (place + size) words)) o) (output-is (g .history) p)
-            ∙ sym (ap (λ (l : List Call). outputFrom (g .before) l out) more) ∙ g .output;
       }
 
   -- no record follows
-  progress-ended : firstCall bytes (length out₀) (drop place words) ≡ none → Progress start words bytes out₀ place 0 c s out
-  unfolding decodeTo wordsTo outputFrom
+  progress-ended : firstCall bytes (length out₀) (drop place words) ≡ none → Progress c₀ s₀ words bytes out₀ place 0 c s out
+  unfolding decodeTo wordsTo
   progress-ended f =
       let room = length out₀ in
       let size = recordLength (drop place words) in
       let stop : decodeTo (suc m) bytes room (drop place words) ≡ [] = ap (λ o. onward o (λ j. j ∷ decodeTo m bytes room (drop size (drop place words))) []) f in
       record {
         before = g .before;
-        history = g .history;
+        made = g .made;
         calls = ap (λ (l : List Call). g .before ++ l) (sym stop) ∙ g .calls;
         read = ap (λ (n : ℕ). place + n) (sym (ap (λ o. onward o (λ j. size + wordsTo m bytes room (drop size (drop place words))) 0) f)) ∙ g .read;
-        output = sym (ap (λ (l : List Call). outputFrom (g .before) l out) stop) ∙ g .output;
       }
 
-module _ {start : List Call} {words bytes : List ℕ} {out₀ : List Float} where
+module _ {c₀ : Context} {s₀ words bytes : List ℕ} {out₀ : List Float} where
   -- the next call is made
-  pub progress-next : {place left size : ℕ} {c c1 : Context} {s s1 : List ℕ} {out out1 : List Float} → Progress start words bytes out₀ place left c s out → 0 < left → length out ≡ length out₀
+  pub progress-next : {place left size : ℕ} {c c1 : Context} {s s1 : List ℕ} {out out1 : List Float} → Progress c₀ s₀ words bytes out₀ place left c s out → 0 < left → length out ≡ length out₀
       → size ≡ nextSize (drop place words) → (size ≡ 0 → ⊥) → {code : ℕ} → code ≡ wordAt words place
       → Changes c s out c1 s1 out1 (callOf bytes (length out) code (take (place + size - (place + 2)) (drop (place + 2) words)))
-      → Progress start words bytes out₀ (place + size) (left - 1) c1 s1 out1
+      → Progress c₀ s₀ words bytes out₀ (place + size) (left - 1) c1 s1 out1
   progress-next {left = zero} g h l e n ec p = absurd (omega arith)
   progress-next {place = place} {left = suc m} {size = size} {c = c} {c1 = c1} {s = s} {s1 = s1} {out = out} {out1 = out1} g h l e n {code = code} ec p =
       let w = take (place + size - (place + 2)) (drop (place + 2) words) in
       let q = subst (λ (r : ℕ). Performed c s out (p .number) (p .value) c1 s1 out1 (callOf bytes r code w)) l (p .made) in
       let less : m ≡ suc m - 1 = omega arith in
-      subst (λ (x : ℕ × ℕ). Progress start words bytes out₀ (place + x .0) (x .1) c1 s1 out1) (λ i. (sym (next-is words bytes place size (length out₀) e n .0) i, less i))
+      subst (λ (x : ℕ × ℕ). Progress c₀ s₀ words bytes out₀ (place + x .0) (x .1) c1 s1 out1) (λ i. (sym (next-is words bytes place size (length out₀) e n .0) i, less i))
       (progress-made g (next-some words bytes place size (length out₀) e n code ec) q)
 
   -- no call follows
-  pub progress-stop : {place left size : ℕ} {c : Context} {s : List ℕ} {out : List Float} → Progress start words bytes out₀ place left c s out → 0 < left
-      → size ≡ nextSize (drop place words) → size ≡ 0 → Progress start words bytes out₀ place 0 c s out
+  pub progress-stop : {place left size : ℕ} {c : Context} {s : List ℕ} {out : List Float} → Progress c₀ s₀ words bytes out₀ place left c s out → 0 < left
+      → size ≡ nextSize (drop place words) → size ≡ 0 → Progress c₀ s₀ words bytes out₀ place 0 c s out
   progress-stop {left = zero} g h e z = absurd (omega arith)
   progress-stop {place = place} {left = suc m} {size = size} g h e z = progress-ended g (next-none words bytes place size (length out₀) e z)
 
   -- before the first call
-  pub progress-start : {c : Context} {s : List ℕ} → History start c s → Progress start words bytes out₀ 0 (length words) c s out₀
-  progress-start h = record { before = start; history = h; calls = refl; read = zero-add _; output = refl }
+  pub progress-start : Progress c₀ s₀ words bytes out₀ 0 (length words) c₀ s₀ out₀
+  progress-start = record { before = []; made = no-call; calls = refl; read = zero-add _ }
 
   -- after the last
-  pub progress-done : {place left : ℕ} {c : Context} {s : List ℕ} {out : List Float} → Progress start words bytes out₀ place left c s out → left ≤ 0
-      → Continues start words bytes out₀ (record { read = place; context = c }) s out
-  unfolding decodeTo wordsTo outputFrom
+  pub progress-done : {place left : ℕ} {c : Context} {s : List ℕ} {out : List Float} → Progress c₀ s₀ words bytes out₀ place left c s out → left ≤ 0
+      → MakesList c₀ words bytes s₀ out₀ (record { read = place; context = c }) s out
+  unfolding decodeTo wordsTo
   progress-done {left = suc m} g h = absurd (omega arith)
-  progress-done {place = place} {left = zero} {c = c} {s = s} g h =
-      record {
-        read = sym (add-zero place) ∙ g .read;
-        history = subst (λ (l : List Call). History l c s) (sym (append-nil (g .before)) ∙ g .calls) (g .history);
-        output = g .output;
-      }
+  progress-done {place = place} {left = zero} {c = c} {s = s} {out = out} g h =
+      record { read = sym (add-zero place) ∙ g .read; made = subst (λ (l : List Call). InTurn c₀ s₀ out₀ l c s out) (sym (append-nil (g .before)) ∙ g .calls) (g .made) }
+
+-- ---- a list after other calls from fresh
+
+-- The calls of a list are made after other calls, up to the first words that are no record.
+pub record Continues (before : List Call) (words bytes : List ℕ) (out : List Float) (r : ListReply) (s1 : List ℕ) (out1 : List Float) : Type 0 where
+  pub read : r .read ≡ wordsRead bytes (length out) words
+  pub history : History (before ++ decode bytes (length out) words) (r .context) s1
+  pub output : out1 ≡ outputFrom before (decode bytes (length out) words) out
+
+-- the output of one list after another
+pub output-append : (before a b : List Call) (out : List Float) → outputFrom before (a ++ b) out ≡ outputFrom (before ++ a) b (outputFrom before a out)
+unfolding outputFrom
+output-append before [] b out = ap (λ (l : List Call). outputFrom l b out) (sym (append-nil before))
+output-append before (k ∷ a) b out =
+    output-append (before ++ (k ∷ [])) a b (outputAfter (logs before) k out)
+    ∙ ap (λ (l : List Call). outputFrom l b (outputFrom (before ++ (k ∷ [])) a (outputAfter (logs before) k out))) (append-assoc before (k ∷ []) a)
+
+in-turn : {before l : List Call} {c c1 : Context} {s s1 : List ℕ} {out out1 : List Float} → History before c s → InTurn c s out l c1 s1 out1 → History (before ++ l) c1 s1 × (out1 ≡ outputFrom before l out)
+unfolding outputFrom
+in-turn {before = before} {c = c} {s = s} h no-call = (subst (λ (l : List Call). History l c s) (sym (append-nil before)) h, refl)
+in-turn {before = before} {out = out} h (one-more {l = l} {k = k} {c2 = c2} {s2 = s2} t p) =
+    let q = in-turn h t in (
+      subst (λ (m : List Call). History m c2 s2) (append-assoc before l (k ∷ [])) (then (q .0) (performed-made p)),
+      output-is (q .0) p ∙ ap (λ (o : List Float). outputAfter (logs (before ++ l)) k o) (q .1) ∙ sym (output-append before l (k ∷ []) out),
+    )
+
+pub continues : {before : List Call} {c : Context} {words bytes s s1 : List ℕ} {out out1 : List Float} {r : ListReply} → History before c s → MakesList c words bytes s out r s1 out1
+    → Continues before words bytes out r s1 out1
+continues h m = let q = in-turn h (m .made) in record { read = m .read; history = q .0; output = q .1 }

@@ -23,7 +23,20 @@ pub record Changes (c : Context) (s : List ℕ) (out : List Float) (c1 : Context
   pub value : ℕ
   pub made : Performed c s out number value c1 s1 out1 k
 
--- ---- a list
+-- ---- a list, on any context, store and output
+
+-- `InTurn c s out l c1 s1 out1`: the calls of l were made, each on what the one before left
+pub data InTurn (c : Context) (s : List ℕ) (out : List Float) : List Call → Context → List ℕ → List Float → Type 0 where
+  no-call : InTurn c s out [] c s out
+  one-more : {l : List Call} {k : Call} {n value : ℕ} {c1 c2 : Context} {s1 s2 : List ℕ} {out1 out2 : List Float} → InTurn c s out l c1 s1 out1 → Performed c1 s1 out1 n value c2 s2 out2 k
+      → InTurn c s out (l ++ (k ∷ [])) c2 s2 out2
+
+-- the calls of a list are made, up to the first words that are no record
+pub record MakesList (c : Context) (words bytes s : List ℕ) (out : List Float) (r : ListReply) (s1 : List ℕ) (out1 : List Float) : Type 0 where
+  pub read : r .read ≡ wordsRead bytes (length out) words
+  pub made : InTurn c s out (decode bytes (length out) words) (r .context) s1 out1
+
+-- ---- a list from fresh: proofs/Running.antt shows what follows from the calls before
 
 -- the output after a call, where the logs of the calls before it are g
 abbrev pub outputAfter : Logs → Call → List Float → List Float
@@ -39,12 +52,6 @@ outputAfter g (draw d) out = outputOf (drawReplayed g d .triangles) out
 unfoldable pub outputFrom : List Call → List Call → List Float → List Float
 outputFrom before [] out = out
 outputFrom before (k ∷ l) out = outputFrom (before ++ (k ∷ [])) l (outputAfter (logs before) k out)
-
--- The calls of a list are made after other calls, up to the first words that are no record.
-pub record Continues (before : List Call) (words bytes : List ℕ) (out : List Float) (r : ListReply) (s1 : List ℕ) (out1 : List Float) : Type 0 where
-  pub read : r .read ≡ wordsRead bytes (length out) words
-  pub history : History (before ++ decode bytes (length out) words) (r .context) s1
-  pub output : out1 ≡ outputFrom before (decode bytes (length out) words) out
 
 -- A store of the wrong size is refused with 1, and nothing is done. Else the calls of the list are made, up to the first words that are no record.
 pub record Runs (words bytes s : List ℕ) (out : List Float) (r : RunReply) (s1 : List ℕ) (out1 : List Float) : Type 0 where

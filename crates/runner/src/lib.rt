@@ -14,7 +14,7 @@ ghost use Rattle.history.specs.Demand3.{History};
 ghost use Rattle.records.specs.Encoding.{callOf, recordCall};
 ghost use Rattle.records.specs.Perform.{Performs};
 ghost use Rattle.runner.specs.Lists.{recordLength, nextSize};
-ghost use Rattle.runner.specs.Run.{Changes, Continues, Runs};
+ghost use Rattle.runner.specs.Run.{Changes, MakesList, Runs};
 
 fn perform(
     c: Context,
@@ -191,7 +191,7 @@ pub fn run_on(
     store: &mut [u8],
     out: &mut [f32],
 ) -> ListReply
-    ensures { λ r. ⌜ ((before : List Call) → History before c (now (store .entry)) → Continues before (now (words .entry)) (now (bytes .entry)) (now (out .entry)) r (now (store .exit)) (now (out .exit))) ⌝ }
+    ensures { λ r. ⌜ MakesList c (now (words .entry)) (now (bytes .entry)) (now (store .entry)) (now (out .entry)) r (now (store .exit)) (now (out .exit)) ⌝ }
 {
     let mut c = c;
     let mut place: usize = 0;

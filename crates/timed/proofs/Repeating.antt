@@ -8,20 +8,13 @@ use lib.ListN.{length}
 use lib.Ieee.{Float}
 use Rattle.context.specs.declared.Context.{Context}
 use Rattle.context.specs.Calls.{Call}
-use Rattle.history.specs.Demand3.{History, logs}
+use Rattle.history.specs.Demand3.{History}
 use Rattle.runner.specs.declared.ListReply.{ListReply}
 use Rattle.runner.specs.Lists.{decode}
 use Rattle.runner.specs.declared.RunReply.{RunReply}
-use Rattle.runner.specs.Run.{outputAfter, outputFrom, Continues, Runs}
+use Rattle.runner.specs.Run.{MakesList, outputFrom, Runs}
+use Rattle.runner.proofs.Running.{Continues, output-append, continues}
 use Rattle.timed.specs.Repeat.{timesOf, Repeats, RunsAgain}
-
--- the output of one list after another
-pub output-append : (before a b : List Call) (out : List Float) → outputFrom before (a ++ b) out ≡ outputFrom (before ++ a) b (outputFrom before a out)
-unfolding outputFrom
-output-append before [] b out = ap (λ (l : List Call). outputFrom l b out) (sym (append-nil before))
-output-append before (k ∷ a) b out =
-    output-append (before ++ (k ∷ [])) a b (outputAfter (logs before) k out)
-    ∙ ap (λ (l : List Call). outputFrom l b (outputFrom (before ++ (k ∷ [])) a (outputAfter (logs before) k out))) (append-assoc before (k ∷ []) a)
 
 module _ {before : List Call} {words bytes : List ℕ} {out₀ : List Float} where
   pub repeats-none : {c : Context} {s : List ℕ} → History before c s → Repeats before 0 words bytes out₀ c s out₀
@@ -30,11 +23,11 @@ module _ {before : List Call} {words bytes : List ℕ} {out₀ : List Float} whe
 
   -- once more
   pub repeats-next : {i : ℕ} {c : Context} {s s1 : List ℕ} {out out1 : List Float} {r : ListReply} → length out ≡ length out₀ → Repeats before i words bytes out₀ c s out
-      → ((l : List Call) → History l c s → Continues l words bytes out r s1 out1) → Repeats before (i + 1) words bytes out₀ (r .context) s1 out1
+      → MakesList c words bytes s out r s1 out1 → Repeats before (i + 1) words bytes out₀ (r .context) s1 out1
   unfolding timesOf
   repeats-next {i = i} {s1 = s1} {out = out} {out1 = out1} {r = r} e g p =
       let l = decode bytes (length out₀) words in
-      let q : Continues (before ++ timesOf i l) words bytes out r s1 out1 = p (before ++ timesOf i l) (g .history) in
+      let q : Continues (before ++ timesOf i l) words bytes out r s1 out1 = continues (g .history) p in
       let d : decode bytes (length out) words ≡ l = ap (λ (n : ℕ). decode bytes n words) e in
       rw add-one
       (record {

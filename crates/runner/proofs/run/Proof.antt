@@ -1,8 +1,8 @@
 -- `runner::run` meets its contract: the calls of a list, after none.
-use mathlib.Core.List.{[]}
 use mathlib.Core.Path.{_≡_, refl}
 use borrow.Author.Needs.{needs}
 use Rattle.history.specs.Demand3.{start}
+use Rattle.runner.proofs.Running.{continues}
 use Rattle.runner.proofs.run.Statement.{statement}
 use Rattle.runner.proofs.run.Tie as tie
 
@@ -18,7 +18,7 @@ same-length-2 c = c .before .before .before .before .before .run-on .kept .1 .1 
 returns-2 : tie.Need-returns-2
 returns-2 c =
     let whole = c .before .before .before .before .before .before .before .before .if1 .left in
-    let ran = c .before .before .before .before .before .run-on .ensures [] (start (c .before .before .before .before .before .before .before .before .before .new .ensures) whole) in
+    let ran = continues (start (c .before .before .before .before .before .before .before .before .before .new .ensures) whole) (c .before .before .before .before .before .run-on .ensures) in
     record { refused = λ n. absurd (n whole); ran = λ _. (refl, ran .read, ran .history, ran .output) }
 
 pub run-spec : {M : Type 1} → statement M

@@ -8,8 +8,8 @@ use borrow.Author.Needs.{needs}
 use lib.Ieee.{Float}
 use lib.ListN.{length, take, drop}
 use Rattle.stack.specs.Stack.{push, pop}
-use Rattle.context.specs.Calls.{bind, buffer, Call, matrix, mode, object}
-use Rattle.history.specs.Demand3.{History, by-set-matrix-mode, by-push-matrix, by-pop-matrix, by-bind-buffer}
+use Rattle.context.specs.Calls.{bind, buffer, matrix, mode, object}
+use Rattle.history.specs.Demand3.{by-set-matrix-mode, by-push-matrix, by-pop-matrix, by-bind-buffer}
 use Rattle.records.specs.Encoding.{matrixOf, updateCode, callOf}
 use Rattle.runner.proofs.Calls.{is-mode, is-push, is-pop, is-update, is-bind, is-data, changes}
 use Rattle.runner.proofs.Running.{next-inside, Progress, progress-start, progress-next, progress-stop, progress-done, Stepped, joined, stayed}
@@ -17,13 +17,13 @@ use Rattle.runner.proofs.run_on.Statement.{statement}
 use Rattle.runner.proofs.run_on.Tie as tie
 
 abbrev Inv-loop : tie.InvT-loop
-Inv-loop words bytes store₀ out₀ c₀ place₀ left₀ store out c place left = ((before : List Call) → History before c₀ store₀ → Progress before words bytes out₀ place left c store out) × (place ≤ length words) × (length store ≡ length store₀) × (length out ≡ length out₀)
+Inv-loop words bytes store₀ out₀ c₀ place₀ left₀ store out c place left = Progress c₀ store₀ words bytes out₀ place left c store out × (place ≤ length words) × (length store ≡ length store₀) × (length out ≡ length out₀)
 
 abbrev μ-loop : tie.MeasureT-loop
 μ-loop words bytes store₀ out₀ c₀ place₀ left₀ store out c place left = left
 
 loop-holds : tie.Need-loop-holds Inv-loop μ-loop
-loop-holds c = (λ before h. progress-start h, omega arith, refl, refl)
+loop-holds c = (progress-start, omega arith, refl, refl)
 
 same-length : tie.Need-same-length Inv-loop μ-loop
 same-length c = c .before .before .before .loop .inv .2
@@ -32,7 +32,7 @@ same-length-2 : tie.Need-same-length-2 Inv-loop μ-loop
 same-length-2 c = c .before .before .before .loop .inv .3
 
 returns : tie.Need-returns Inv-loop μ-loop
-returns c = λ before h. progress-done (progress-stop (c .before .before .before .loop .inv .0 before h) (c .before .before .loop-test .taken) (c .before .next-size .ensures) (c .if1 .taken)) (omega arith)
+returns c = progress-done (progress-stop (c .before .before .before .loop .inv .0) (c .before .before .loop-test .taken) (c .before .next-size .ensures) (c .if1 .taken)) (omega arith)
 
 add-start : tie.Need-add-start Inv-loop μ-loop
 add-start c = let i = next-inside (c .before .before .before .before .before .before .before .before .args .words .now) (c .before .before .before .before .before .before .before .before .args .bytes .now) (c .before .before .before .loop .place) (c .before .next-size .result) 0 (c .before .next-size .ensures) (c .if1 .left) in omega (arith, i .0, i .1, c .before .before .before .before .before .before .before .before .good .1 .0)
@@ -76,7 +76,7 @@ loop-again c =
     (⊎-elim (λ z. joined (z .8 .ensures _, z .8 .kept .1 .0, refl) (z .11) (z .12) (z .13))
     (λ z. joined (z .9 .ensures, z .9 .kept .1 .0, z .9 .kept .1 .1 .1 .1 .1 .0) (z .14) (z .15) (z .16))))))))) (c .if2 .came)
     in (
-      λ before h. progress-next (at .inv .0 before h) (c .before .before .before .before .before .loop-test .taken) (at .inv .3) (size .ensures) is-one (code .ensures) (made .0),
+      progress-next (at .inv .0) (c .before .before .before .before .before .loop-test .taken) (at .inv .3) (size .ensures) is-one (code .ensures) (made .0),
       omega (arith, i .1),
       made .1 ∙ at .inv .2,
       made .2 ∙ at .inv .3,
@@ -89,7 +89,7 @@ same-length-4 : tie.Need-same-length-4 Inv-loop μ-loop
 same-length-4 c = c .before .loop .inv .3
 
 returns-2 : tie.Need-returns-2 Inv-loop μ-loop
-returns-2 c = λ before h. progress-done (c .before .loop .inv .0 before h) (c .loop-test .left)
+returns-2 c = progress-done (c .before .loop .inv .0) (c .loop-test .left)
 
 pub run-on-spec : {M : Type 1} → statement M
 run-on-spec =
