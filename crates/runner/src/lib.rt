@@ -9,8 +9,6 @@ ghost use mathlib.Core.Path.{_≡_};
 ghost use lib.ListN.{length, drop};
 ghost use lib.Ieee.{Float};
 ghost use Prim.Native.Nat.{_≤_, _<_};
-ghost use Rattle.context.specs.Calls.{Call};
-ghost use Rattle.history.specs.Demand3.{History};
 ghost use Rattle.records.specs.Encoding.{callOf, recordCall};
 ghost use Rattle.records.specs.Perform.{Performs};
 ghost use Rattle.runner.specs.Lists.{recordLength, nextSize};
