@@ -6,7 +6,7 @@ use mathlib.Core.Option.{some, none}
 use mathlib.Core.Path.{_≡_, refl, sym, ap, subst, _∙_}
 use Prim.Native.Nat.{ℕ, _+_, _<_}
 use native.Mathlib.Omega.{arith}
-use borrow.Author.Tests.{le-ltb, ne-eqb}
+use borrow.Author.Tests.{ne-eqb}
 use lib.Dec.{eqb, ltb}
 use lib.Ieee.{Float}
 use lib.ListN.{length}
@@ -16,7 +16,7 @@ use Rattle.matrix.specs.Matrix.{product}
 use Rattle.stack.specs.Stack as stack
 use Rattle.stack.specs.declared.MatrixStack.{MatrixStack}
 use Rattle.stack.specs.declared.StackAnswer.{StackAnswer}
-use Rattle.stack.proofs.Stacks.{follows, stack-stays, fresh-sound, fresh-state}
+use Rattle.stack.proofs.Stacks.{is-two, follows, stack-stays, fresh-sound, fresh-state}
 use Rattle.buffers.specs.Objects as buffer
 use Rattle.buffers.specs.declared.Buffers.{Buffers}
 use Rattle.buffers.proofs.Bounds.{never, same?}
@@ -188,12 +188,6 @@ module _ (u : stack.MatrixUpdate) (c : Context) where
   abbrev kept : Currents
   kept = currentsOf (c .stacks)
 
-  -- what a call that updates a matrix answers on a sound stack
-  update-answer : stack.Sound in-force → stack.stackAnswer (stack.update u) in-force
-      ≡ cond (eqb (stack.updateNumber u) 0) (stack.answer 0 (stack.changed (stack.update u) in-force)) (stack.answer (stack.updateNumber u) in-force)
-  unfolding stack.stackAnswer
-  update-answer h = rw (le-ltb stack.limit (in-force .depth) (h .within))
-
   -- the stacks with the answer put back, from the current matrices alone
   put-current : (m : MatrixMode) (t : Stacks) (e : List Float) → putStack m (withCurrent (record { entries = e }) (stackAt m t)) t ≡ putCurrents (putCurrent m e (currentsOf t)) t
   put-current MatrixMode.Modelview t e = refl
@@ -220,7 +214,7 @@ module _ (u : stack.MatrixUpdate) (c : Context) where
       ap (λ (t : Stacks). reply 0 (noted 0 (putStacks t c)))
       (ap (λ x. putCurrents x (c .stacks)) e ∙ sym (put-current (c .mode) (c .stacks) (stack.updated u (currentAt (c .mode) kept)))
       ∙ ap (λ (x : List Float). putStack (c .mode) (withCurrent (record { entries = stack.updated u x }) in-force) (c .stacks)) (sym (current-at (c .mode) (c .stacks))))
-      ∙ sym (ap answered (update-answer (h .stacks (c .mode)) ∙ ap (λ (n : ℕ). cond (eqb n 0) (stack.answer 0 (stack.changed (stack.update u) in-force)) (stack.answer n in-force)) z))
+      ∙ sym (ap answered (is-two in-force (h .stacks (c .mode)) (stack.update u) ∙ ap (λ (n : ℕ). cond (eqb n 0) (stack.answer 0 (stack.changed (stack.update u) in-force)) (stack.answer n in-force)) z))
       )
 
   -- the value may be had from a copy of the current matrices
@@ -244,7 +238,7 @@ module _ (u : stack.MatrixUpdate) (c : Context) where
       update-settled _ out g (λ h.
       ap (λ (x : Currents). reply n (noted n (putStacks (putCurrents x (c .stacks)) c))) e
       ∙ ap (λ (t : Stacks). reply n (noted n (putStacks t c))) (sym (put-same (c .mode) (c .stacks)))
-      ∙ sym (ap answered (update-answer (h .stacks (c .mode)) ∙ ap (λ (x : ℕ). cond (eqb x 0) (stack.answer 0 (stack.changed (stack.update u) in-force)) (stack.answer x in-force)) (sym z)
+      ∙ sym (ap answered (is-two in-force (h .stacks (c .mode)) (stack.update u) ∙ ap (λ (x : ℕ). cond (eqb x 0) (stack.answer 0 (stack.changed (stack.update u) in-force)) (stack.answer x in-force)) (sym z)
       ∙ ap (λ b. cond b (stack.answer 0 (stack.changed (stack.update u) in-force)) (stack.answer n in-force)) (ne-eqb n 0 q)))
       )
 

@@ -51,10 +51,10 @@ module _ (s : MatrixStack) (g : Sound s) where
   effect-sound pop e = record { places = g .places; within = omega (arith, g .within) }
 
   -- of a sound stack the answer is one of two
-  abbrev two : MatrixCall → Bool → StackAnswer
+  abbrev pub two : MatrixCall → Bool → StackAnswer
   two k b = cond b (answer 0 (changed k s)) (answer (stackNumber k (s .depth)) s)
 
-  is-two : (k : MatrixCall) → stackAnswer k s ≡ two k (eqb (stackNumber k (s .depth)) 0)
+  pub is-two : (k : MatrixCall) → stackAnswer k s ≡ two k (eqb (stackNumber k (s .depth)) 0)
   unfolding stackAnswer
   is-two k = rw (le-ltb limit (s .depth) (g .within))
 
