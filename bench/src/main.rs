@@ -81,7 +81,7 @@ fn draws(plan: &Plan) {
         let mut ns = Vec::new();
         for &size in mix.sizes.iter().take(plan.sizes) {
             let work = mix.work(size);
-            let (theirs, ours) = both(&work, plan);
+            let (theirs, ours) = both(&work, plan, || ());
             let each = work.triangles as f64;
             let ratio = theirs / ours;
             let kind = &mut least[mix.common as usize];
@@ -98,8 +98,8 @@ fn draws(plan: &Plan) {
     println!("\nLeast ratio: {:.2} of the common mixes (bold), {:.2} of the others. Growth: the dearest size against 100 triangles, ours.\n", least[1], least[0]);
 }
 
-/// Nanoseconds of one pass over `again`, the Rust's and ours; both outputs are compared first.
-fn both(work: &Work, plan: &Plan) -> (f64, f64) {
+/// Nanoseconds of one pass over `again`, the Rust's and ours; both outputs are compared first. Each round does `beside` too.
+fn both(work: &Work, plan: &Plan, mut beside: impl FnMut()) -> (f64, f64) {
     raster::keep(work.last.max(1));
     let mut theirs = Theirs::new(work);
     let mut ours = Ours::new(work, 51 * work.last);
@@ -113,6 +113,7 @@ fn both(work: &Work, plan: &Plan) -> (f64, f64) {
         t = t.min(time(|| theirs.run(times[0])) / times[0] as f64);
         start = start.min(time(|| ours.run(0)));
         o = o.min(time(|| ours.run(times[1])));
+        beside();
     }
     (t, (o - start) / times[1] as f64)
 }
@@ -174,20 +175,32 @@ fn floors(plan: &Plan) {
         });
         println!("- copying the output of {size} triangles: {:.2} ns a triangle", ns / size as f64);
     }
-    println!("- copying a context of {CONTEXT} bytes in and out: {:.0} ns\n", context_copy(plan));
+    let mut copies = Copies::new();
+    println!(
+        "- copying a context of {CONTEXT} bytes in and out: {:.0} ns\n",
+        best(plan, |n| copies.run(n))
+    );
 }
 
-fn context_copy(plan: &Plan) -> f64 {
-    let mut from = vec![1u8; CONTEXT];
-    let mut to = vec![0u8; CONTEXT];
-    best(plan, |n| {
-        for _ in 0..n {
-            to.copy_from_slice(black_box(&from));
-            black_box(&mut to);
-            from.copy_from_slice(black_box(&to));
-            black_box(&mut from);
+/// A context that is copied in and out: what a state call is measured by.
+struct Copies {
+    from: Vec<u8>,
+    to: Vec<u8>,
+}
+
+impl Copies {
+    fn new() -> Self {
+        Copies { from: vec![1; CONTEXT], to: vec![0; CONTEXT] }
+    }
+
+    fn run(&mut self, times: u32) {
+        for _ in 0..times {
+            self.to.copy_from_slice(black_box(&self.from));
+            black_box(&mut self.to);
+            self.from.copy_from_slice(black_box(&self.to));
+            black_box(&mut self.from);
         }
-    })
+    }
 }
 
 // ---- state calls ----
@@ -210,13 +223,16 @@ fn state_work(again: Vec<Call>) -> Work {
 }
 
 fn states(plan: &Plan) {
-    let copy = context_copy(plan);
     println!("## State calls, ns a call\n");
     println!("| call | Rust | ours | copies of a context in and out |\n|---|---|---|---|");
+    let mut copies = Copies::new();
+    let times = count(plan, |n| copies.run(n));
     for (name, call) in state_calls().into_iter().filter(|(name, _)| plan.is_chosen(name)) {
         let again = vec![call; LIST].concat();
         let each = again.len() as f64;
-        let (theirs, ours) = both(&state_work(again), plan);
+        let mut copy = f64::MAX;
+        let beside = || copy = copy.min(time(|| copies.run(times)) / times as f64);
+        let (theirs, ours) = both(&state_work(again), plan, beside);
         let (theirs, ours) = (theirs / each, ours / each);
         println!("| {name} | {theirs:.1} | {ours:.1} | {:.2} |", ours / copy);
     }

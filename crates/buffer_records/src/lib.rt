@@ -24,7 +24,7 @@ fn make_gen(c: Context, n: usize) -> CallReply
     }
 }
 
-pub fn make_data(c: Context, store: &mut [u8], w: &[u32], bytes: &[u8]) -> Reply
+fn make_data(c: Context, store: &mut [u8], w: &[u32], bytes: &[u8]) -> Reply
     ensures { λ r. ⌜ Made c (now (store .entry)) (Call.object (ObjectCall.buffer (dataOf (now (bytes .entry)) (now (w .entry))))) (r .number) (r .context) (now (store .exit)) ⌝ }
 {
     let target = words::word_at(w, 0);
@@ -34,7 +34,7 @@ pub fn make_data(c: Context, store: &mut [u8], w: &[u32], bytes: &[u8]) -> Reply
     gles::buffer_data(c, store, target, size, part, usage)
 }
 
-pub fn make_sub_data(c: Context, store: &mut [u8], w: &[u32], bytes: &[u8]) -> Reply
+fn make_sub_data(c: Context, store: &mut [u8], w: &[u32], bytes: &[u8]) -> Reply
     ensures { λ r. ⌜ Made c (now (store .entry)) (Call.object (ObjectCall.buffer (subDataOf (now (bytes .entry)) (now (w .entry))))) (r .number) (r .context) (now (store .exit)) ⌝ }
 {
     let target = words::word_at(w, 0);

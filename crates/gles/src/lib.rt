@@ -92,19 +92,12 @@ pub fn push_matrix(c: Context) -> Reply
         return c.refuse();
     }
     let mode = c.mode;
-    let old = c.stacks;
     match mode {
         MatrixMode::Modelview => {
-            let projection = old.projection;
-            let texture = old.texture;
-            let view = old.modelview;
-            let a = lent_stack::pushed(view);
+            let mut stacks = c.stacks;
+            let a = lent_stack::pushed(stacks.modelview);
             let modelview = a.stack;
-            let stacks = Stacks {
-                modelview,
-                projection,
-                texture,
-            };
+            stacks.modelview = modelview;
             let error = context::slot_after(a.number, c.error);
             let mut out = c;
             out.stacks = stacks;
@@ -115,16 +108,10 @@ pub fn push_matrix(c: Context) -> Reply
             }
         }
         MatrixMode::Projection => {
-            let modelview = old.modelview;
-            let texture = old.texture;
-            let lens = old.projection;
-            let a = lent_stack::pushed(lens);
+            let mut stacks = c.stacks;
+            let a = lent_stack::pushed(stacks.projection);
             let projection = a.stack;
-            let stacks = Stacks {
-                modelview,
-                projection,
-                texture,
-            };
+            stacks.projection = projection;
             let error = context::slot_after(a.number, c.error);
             let mut out = c;
             out.stacks = stacks;
@@ -135,16 +122,10 @@ pub fn push_matrix(c: Context) -> Reply
             }
         }
         MatrixMode::Texture => {
-            let modelview = old.modelview;
-            let projection = old.projection;
-            let coordinates = old.texture;
-            let a = lent_stack::pushed(coordinates);
+            let mut stacks = c.stacks;
+            let a = lent_stack::pushed(stacks.texture);
             let texture = a.stack;
-            let stacks = Stacks {
-                modelview,
-                projection,
-                texture,
-            };
+            stacks.texture = texture;
             let error = context::slot_after(a.number, c.error);
             let mut out = c;
             out.stacks = stacks;
@@ -164,19 +145,12 @@ pub fn pop_matrix(c: Context) -> Reply
         return c.refuse();
     }
     let mode = c.mode;
-    let old = c.stacks;
     match mode {
         MatrixMode::Modelview => {
-            let projection = old.projection;
-            let texture = old.texture;
-            let view = old.modelview;
-            let a = lent_stack::popped(view);
+            let mut stacks = c.stacks;
+            let a = lent_stack::popped(stacks.modelview);
             let modelview = a.stack;
-            let stacks = Stacks {
-                modelview,
-                projection,
-                texture,
-            };
+            stacks.modelview = modelview;
             let error = context::slot_after(a.number, c.error);
             let mut out = c;
             out.stacks = stacks;
@@ -187,16 +161,10 @@ pub fn pop_matrix(c: Context) -> Reply
             }
         }
         MatrixMode::Projection => {
-            let modelview = old.modelview;
-            let texture = old.texture;
-            let lens = old.projection;
-            let a = lent_stack::popped(lens);
+            let mut stacks = c.stacks;
+            let a = lent_stack::popped(stacks.projection);
             let projection = a.stack;
-            let stacks = Stacks {
-                modelview,
-                projection,
-                texture,
-            };
+            stacks.projection = projection;
             let error = context::slot_after(a.number, c.error);
             let mut out = c;
             out.stacks = stacks;
@@ -207,16 +175,10 @@ pub fn pop_matrix(c: Context) -> Reply
             }
         }
         MatrixMode::Texture => {
-            let modelview = old.modelview;
-            let projection = old.projection;
-            let coordinates = old.texture;
-            let a = lent_stack::popped(coordinates);
+            let mut stacks = c.stacks;
+            let a = lent_stack::popped(stacks.texture);
             let texture = a.stack;
-            let stacks = Stacks {
-                modelview,
-                projection,
-                texture,
-            };
+            stacks.texture = texture;
             let error = context::slot_after(a.number, c.error);
             let mut out = c;
             out.stacks = stacks;

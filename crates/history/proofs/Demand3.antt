@@ -41,7 +41,7 @@ draw-did (by-draw-elements κs store guest indices out e p) = store-is e p
 draw-did (by-draw-arrays κs store guest out e p) = store-is e p
 draw-did (by-draw-elements-from-guest κs store guest out e p) = store-is e p
 
-made-did : {c c1 : Context} {s s1 : List ℕ} {k : Call} {n : ℕ} → Made c s k n c1 s1 → Did k c s n c1 s1
+pub made-did : {c c1 : Context} {s s1 : List ℕ} {k : Call} {n : ℕ} → Made c s k n c1 s1 → Did k c s n c1 s1
 made-did (by-set-matrix-mode p) = p _
 made-did (by-load-identity p) = p _
 made-did (by-load-matrix p) = p _

@@ -4,6 +4,7 @@ use context::Reply;
 ghost use mathlib.Core.Bool.{true};
 ghost use mathlib.Core.Path.{_≡_};
 ghost use Rattle.context.specs.Calls.{Call, ObjectCall};
+ghost use Rattle.words.specs.Words.{wordAt, fourFloats};
 ghost use Rattle.records.specs.Encoding.{matrixOf, updateCode, arrayOf, attributeOf, pipelineOf, isRecord};
 ghost use Rattle.records.specs.Perform.{Makes, Gives, replyOf};
 
@@ -43,7 +44,7 @@ pub fn make_matrix(c: Context, code: u32, f: [f32; 16]) -> Reply
     }
 }
 
-pub fn make_array(c: Context, code: u32, a: u32, b: u32, d: u32, e: u32) -> Reply
+fn make_array(c: Context, code: u32, a: u32, b: u32, d: u32, e: u32) -> Reply
     ensures { λ r. ⌜ Makes (Call.object (ObjectCall.array (arrayOf code a b d e))) c (r .number) (r .context) ⌝ }
 {
     match code {
@@ -56,7 +57,7 @@ pub fn make_array(c: Context, code: u32, a: u32, b: u32, d: u32, e: u32) -> Repl
     }
 }
 
-pub fn make_attribute(c: Context, code: u32, a: u32, f: [f32; 4]) -> Reply
+fn make_attribute(c: Context, code: u32, a: u32, f: [f32; 4]) -> Reply
     ensures { λ r. ⌜ Makes (Call.attribute (attributeOf code a f)) c (r .number) (r .context) ⌝ }
 {
     match code {
@@ -65,7 +66,7 @@ pub fn make_attribute(c: Context, code: u32, a: u32, f: [f32; 4]) -> Reply
     }
 }
 
-pub fn make_pipeline(c: Context, code: u32, a: u32, b: u32, f: [f32; 4]) -> Reply
+fn make_pipeline(c: Context, code: u32, a: u32, b: u32, f: [f32; 4]) -> Reply
     ensures { λ r. ⌜ Makes (Call.pipeline (pipelineOf code a b f)) c (r .number) (r .context) ⌝ }
 {
     match code {
@@ -82,6 +83,34 @@ pub fn make_pipeline(c: Context, code: u32, a: u32, b: u32, f: [f32; 4]) -> Repl
         _ => gles::set_depth_range(c, f[0], f[1]),
     }
 }
+
+// ---- the same, from the words of a record
+
+pub fn array_record(c: Context, code: u32, w: &[u32]) -> Reply
+    ensures { λ r. ⌜ Makes (Call.object (ObjectCall.array (arrayOf code (wordAt (now (w .entry)) 0) (wordAt (now (w .entry)) 1) (wordAt (now (w .entry)) 2) (wordAt (now (w .entry)) 3)))) c (r .number) (r .context) ⌝ }
+{
+    let a = words::word_at(w, 0);
+    let b = words::word_at(w, 1);
+    let d = words::word_at(w, 2);
+    let e = words::word_at(w, 3);
+    make_array(c, code, a, b, d, e)
+}
+
+pub fn attribute_record(c: Context, code: u32, w: &[u32]) -> Reply
+    ensures { λ r. ⌜ Makes (Call.attribute (attributeOf code (wordAt (now (w .entry)) 0) (fourFloats (now (w .entry))))) c (r .number) (r .context) ⌝ }
+{
+    make_attribute(c, code, words::word_at(w, 0), words::four_floats(w))
+}
+
+pub fn pipeline_record(c: Context, code: u32, w: &[u32]) -> Reply
+    ensures { λ r. ⌜ Makes (Call.pipeline (pipelineOf code (wordAt (now (w .entry)) 0) (wordAt (now (w .entry)) 1) (fourFloats (now (w .entry))))) c (r .number) (r .context) ⌝ }
+{
+    let a = words::word_at(w, 0);
+    let b = words::word_at(w, 1);
+    make_pipeline(c, code, a, b, words::four_floats(w))
+}
+
+// ---- answers
 
 // The answer of a call that has no value.
 pub fn replied(r: Reply) -> CallReply

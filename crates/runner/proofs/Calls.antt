@@ -12,11 +12,13 @@ use Rattle.context.specs.declared.Context.{Context}
 use Rattle.context.specs.declared.DrawReply.{DrawReply}
 use Rattle.draw.specs.Scene.{DrawCall}
 use Rattle.stack.specs.Stack.{push, pop}
-use Rattle.context.specs.Calls.{BufferCall, gen, bind, delete, buffer, array, Call, matrix, mode, object, attribute, pipeline, takeError, draw}
+use Rattle.context.proofs.Parts.{changedIn, changes-part}
+use Rattle.context.specs.Calls.{BufferCall, buffer, array, Call, matrix, mode, object, attribute, pipeline, takeError, draw}
 use Rattle.history.specs.Demand3.{Made}
+use Rattle.history.proofs.Demand3.{made-did}
 use Rattle.records.specs.declared.CallReply.{CallReply}
-use Rattle.words.specs.Words.{wordAt, longAt, fourFloats, matrixFloats}
-use Rattle.records.specs.Encoding.{matrixOf, updateCode, dataOf, subDataOf, bufferOf, arrayOf, attributeOf, pipelineOf, sourceOf, drawOfWords, callOf, isRecord, recordCall}
+use Rattle.words.specs.Words.{wordAt, fourFloats, matrixFloats}
+use Rattle.records.specs.Encoding.{matrixOf, updateCode, bufferOf, arrayOf, attributeOf, pipelineOf, sourceOf, drawOfWords, callOf, isRecord, recordCall}
 use Rattle.records.specs.Perform.{Makes, isDraw, valueOf, Gives, DrewIn, replyOf, called, drew, Performs, was-made, was-unknown}
 use Rattle.buffer_records.proofs.Answers.{Answers}
 use Rattle.runner.specs.Run.{Changes}
@@ -36,7 +38,7 @@ module _ (bytes : List ℕ) (room code : ℕ) (w : List ℕ) where
   unfolding callOf
   is-buffer l h = rw (ne-eqb code 0x10 (λ e. absurd (omega arith)), le-ltb code 0x20 l, lt-ltb code 0x30 h)
 
-  -- a matrix or buffer call by its own code
+  -- a matrix call by its own code
   pub is-push : code ≡ 0x14 → matrix push ≡ callOf bytes room code w
   unfolding callOf matrixOf
   is-push e = rw e
@@ -47,27 +49,6 @@ module _ (bytes : List ℕ) (room code : ℕ) (w : List ℕ) where
 
   pub is-update : (code ≡ 0x14 → ⊥) → (code ≡ 0x15 → ⊥) → (code ≡ 0x10 → ⊥) → code < 0x20 → matrix (matrixOf (updateCode code) (matrixFloats w)) ≡ callOf bytes room code w
   is-update p q n h = ap (λ (k : ℕ). matrix (matrixOf k (matrixFloats w))) (rw (ne-eqb code 0x14 p, ne-eqb code 0x15 q)) ∙ is-matrix n h
-
-  pub is-gen : code ≡ 0x20 → object (buffer (gen (longAt w 0))) ≡ callOf bytes room code w
-  unfolding callOf bufferOf
-  is-gen e = rw e
-
-  pub is-bind : code ≡ 0x21 → object (buffer (bind (wordAt w 0) (wordAt w 1))) ≡ callOf bytes room code w
-  unfolding callOf bufferOf
-  is-bind e = rw e
-
-  pub is-delete : code ≡ 0x22 → object (buffer (delete w)) ≡ callOf bytes room code w
-  unfolding callOf bufferOf
-  is-delete e = rw e
-
-  pub is-data : code ≡ 0x23 → object (buffer (dataOf bytes w)) ≡ callOf bytes room code w
-  unfolding callOf bufferOf
-  is-data e = rw e
-
-  pub is-sub-data : 0x20 ≤ code → code < 0x30 → (code ≡ 0x20 → ⊥) → (code ≡ 0x21 → ⊥) → (code ≡ 0x22 → ⊥) → (code ≡ 0x23 → ⊥)
-      → object (buffer (subDataOf bytes w)) ≡ callOf bytes room code w
-  unfolding bufferOf
-  is-sub-data l h p q r t = rw (← is-buffer l h, ne-eqb code 0x20 p, ne-eqb code 0x21 q, ne-eqb code 0x22 r, ne-eqb code 0x23 t)
 
   module _ (l : 0x30 ≤ code) where
     pub is-array : code < 0x36 → object (array (arrayOf code (wordAt w 0) (wordAt w 1) (wordAt w 2) (wordAt w 3))) ≡ callOf bytes room code w
@@ -132,3 +113,7 @@ module _ {k′ : Call} {c : Context} {out : List Float} where
 
   pub changes-draw : {d : DrawCall} {s : List ℕ} {out1 : List Float} {a : DrawReply} → draw d ≡ k′ → DrewIn d c s out a out1 → Changes c s out (a .context) s out1 k′
   changes-draw {a = a} e m = changes-is e (record { number = a .number; value = a .count; made = drew m refl })
+
+-- where the loop puts back the part that the call changes, it has the context that the call left
+pub placed : {k : Call} {c c1 c2 : Context} {n : ℕ} {s s1 : List ℕ} → Made c s k n c1 s1 → c2 ≡ changedIn k c c1 → c2 ≡ c1
+placed m e = e ∙ changes-part (made-did m)

@@ -3,16 +3,13 @@ use buffers::INVALID;
 use buffers::STORE_BYTES;
 use context::Context;
 use records::CallReply;
-ghost use mathlib.Core.List.{List};
 ghost use mathlib.Core.Option.{some};
 ghost use mathlib.Core.Path.{_≡_};
 ghost use lib.ListN.{length, drop};
-ghost use lib.Ieee.{Float};
-ghost use Prim.Native.Nat.{_≤_, _<_};
 ghost use Rattle.records.specs.Encoding.{callOf, recordCall};
 ghost use Rattle.records.specs.Perform.{Performs};
 ghost use Rattle.runner.specs.Lists.{recordLength, nextSize};
-ghost use Rattle.runner.specs.Run.{Changes, MakesList, Runs};
+ghost use Rattle.runner.specs.Run.{MakesList, Runs};
 
 fn perform(
     c: Context,
@@ -34,33 +31,13 @@ fn perform(
         return buffer_records::make_buffer(c, &mut store[..], code, w, bytes);
     }
     if code < 0x36 {
-        let a = words::word_at(w, 0);
-        let b = words::word_at(w, 1);
-        return records::replied(records::make_array(
-            c,
-            code,
-            a,
-            b,
-            words::word_at(w, 2),
-            words::word_at(w, 3),
-        ));
+        return records::replied(records::array_record(c, code, w));
     }
     if code < 0x40 {
-        return records::replied(records::make_attribute(
-            c,
-            code,
-            words::word_at(w, 0),
-            words::four_floats(w),
-        ));
+        return records::replied(records::attribute_record(c, code, w));
     }
     if code < 0x50 {
-        return records::replied(records::make_pipeline(
-            c,
-            code,
-            words::word_at(w, 0),
-            words::word_at(w, 1),
-            words::four_floats(w),
-        ));
+        return records::replied(records::pipeline_record(c, code, w));
     }
     if code == 0x50 {
         return records::make_take_error(c);
@@ -126,62 +103,8 @@ fn next_size(words: &[u32], place: usize) -> usize
     0
 }
 
-// The loop over a list makes the calls whose context is copied most itself: a function between costs one more copy. The other calls are made by
-// the two functions below, which give back the context alone.
-
-// The context after gen_buffers, delete_buffers or buffer_sub_data.
-fn after_buffer_call(c: Context, store: &mut [u8], code: u32, w: &[u32], bytes: &[u8]) -> Context
-    requires { ⌜ (0x20 ≤ code) × (code < 0x30) × (code ≡ 0x21 → ⊥) × (code ≡ 0x23 → ⊥) ⌝ }
-    ensures { λ r. ⌜ ((out : List Float) → Changes c (now (store .entry)) out r (now (store .exit)) out (callOf (now (bytes .entry)) (length out) code (now (w .entry)))) ⌝ }
-{
-    if code == 0x20 {
-        let r = gles::gen_buffers(c, words::long_at(w, 0));
-        return r.context;
-    }
-    if code == 0x22 {
-        let r = gles::delete_buffers(c, w);
-        return r.context;
-    }
-    let r = buffer_records::make_sub_data(c, &mut store[..], w, bytes);
-    r.context
-}
-
-// The context after a call that is no matrix, mode or buffer call.
-fn after_other_call(
-    c: Context,
-    store: &mut [u8],
-    code: u32,
-    w: &[u32],
-    bytes: &[u8],
-    out: &mut [f32],
-) -> Context
-    requires { ⌜ 0x30 ≤ code ⌝ }
-    ensures { λ r. ⌜ Changes c (now (store .entry)) (now (out .entry)) r (now (store .exit)) (now (out .exit)) (callOf (now (bytes .entry)) (length (now (out .entry))) code (now (w .entry))) ⌝ }
-{
-    if code < 0x36 {
-        let a = words::word_at(w, 0);
-        let b = words::word_at(w, 1);
-        let r = records::make_array(c, code, a, b, words::word_at(w, 2), words::word_at(w, 3));
-        return r.context;
-    }
-    if code < 0x40 {
-        let r = records::make_attribute(c, code, words::word_at(w, 0), words::four_floats(w));
-        return r.context;
-    }
-    if code < 0x50 {
-        let a = words::word_at(w, 0);
-        let r = records::make_pipeline(c, code, a, words::word_at(w, 1), words::four_floats(w));
-        return r.context;
-    }
-    if code == 0x50 {
-        let r = records::make_take_error(c);
-        return r.context;
-    }
-    let r = draw_records::make_draw(c, &store[..], code, w, bytes, &mut out[..]);
-    r.context
-}
-
-// Makes the calls of a list, one after the other.
+// Makes the calls of a list, one after the other. The loop puts back the part that a call changes, and the error slot: the rest of the context is
+// not copied. Only a matrix or mode call has the whole context back.
 pub fn run_on(
     c: Context,
     words: &[u32],
@@ -218,16 +141,32 @@ pub fn run_on(
         } else if code < 0x20 {
             let r = records::make_update(c, code, words::matrix_floats(w));
             c = r.context;
-        } else if code == 0x21 {
-            let r = gles::bind_buffer(c, words::word_at(w, 0), words::word_at(w, 1));
-            c = r.context;
-        } else if code == 0x23 {
-            let r = buffer_records::make_data(c, &mut store[..], w, bytes);
-            c = r.context;
         } else if code < 0x30 {
-            c = after_buffer_call(c, &mut store[..], code, w, bytes);
+            let r = buffer_records::make_buffer(c, &mut store[..], code, w, bytes);
+            let part = r.context.buffers;
+            c.buffers = part;
+            c.error = r.context.error;
+        } else if code < 0x36 {
+            let r = records::array_record(c, code, w);
+            let part = r.context.arrays;
+            c.arrays = part;
+            c.error = r.context.error;
+        } else if code < 0x40 {
+            let r = records::attribute_record(c, code, w);
+            let part = r.context.attributes;
+            c.attributes = part;
+            c.error = r.context.error;
+        } else if code < 0x50 {
+            let r = records::pipeline_record(c, code, w);
+            let part = r.context.pipeline;
+            c.pipeline = part;
+            c.error = r.context.error;
+        } else if code == 0x50 {
+            let r = records::make_take_error(c);
+            c.error = r.context.error;
         } else {
-            c = after_other_call(c, &mut store[..], code, w, bytes, &mut out[..]);
+            let r = draw_records::make_draw(c, &store[..], code, w, bytes, &mut out[..]);
+            c.error = r.context.error;
         }
         place = end;
         left -= 1;

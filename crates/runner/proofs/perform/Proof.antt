@@ -2,9 +2,9 @@
 use mathlib.Core.Path.{refl, ap, _∙_}
 use lib.Ieee.{Float}
 use mathlib.Core.List.{List}
-use Rattle.context.specs.Calls.{array, matrix, mode, object, attribute, pipeline}
+use Rattle.context.specs.Calls.{matrix, mode}
 use Rattle.history.specs.Demand3.{by-set-matrix-mode}
-use Rattle.records.specs.Encoding.{matrixOf, arrayOf, attributeOf, pipelineOf}
+use Rattle.records.specs.Encoding.{matrixOf}
 use Rattle.runner.proofs.Calls.{is-mode, is-matrix, is-buffer, is-array, is-attribute, is-pipeline, is-take-error, is-draw, performs, performs-value, performs-buffer, performs-draw}
 use borrow.Author.Needs.{needs}
 use Rattle.runner.proofs.perform.Statement.{statement}
@@ -20,13 +20,13 @@ returns-3 : tie.Need-returns-3
 returns-3 c = performs-buffer (is-buffer (c .before .before .before .before .before .before .before .before .before .before .before .args .bytes .now) _ (c .before .before .before .before .before .before .before .before .before .before .before .args .code) (c .before .before .before .before .before .before .before .before .before .before .before .args .w .now) (c .before .before .before .before .before .if2 .left) (c .before .before .before .before .if3 .taken)) (c .before .before .make-buffer .ensures)
 
 returns-4 : tie.Need-returns-4
-returns-4 c = performs ((λ i. object (array (arrayOf (c .before .before .before .before .before .before .before .before .before .before .before .before .before .before .args .code) (c .before .before .before .before .before .word-at2 .ensures i) (c .before .before .before .before .word-at3 .ensures i) (c .before .before .before .word-at4 .ensures i) (c .before .before .word-at5 .ensures i)))) ∙ is-array (c .before .before .before .before .before .before .before .before .before .before .before .before .before .before .args .bytes .now) _ (c .before .before .before .before .before .before .before .before .before .before .before .before .before .before .args .code) (c .before .before .before .before .before .before .before .before .before .before .before .before .before .before .args .w .now) (c .before .before .before .before .before .before .before .if3 .left) (c .before .before .before .before .before .before .if4 .taken)) (c .replied3 .ensures) (c .before .make-array .ensures) refl refl
+returns-4 c = performs (is-array (c .before .before .before .before .before .before .before .before .before .before .args .bytes .now) _ (c .before .before .before .before .before .before .before .before .before .before .args .code) (c .before .before .before .before .before .before .before .before .before .before .args .w .now) (c .before .before .before .if3 .left) (c .before .before .if4 .taken)) (c .replied3 .ensures) (c .before .array-record .ensures) refl refl
 
 returns-5 : tie.Need-returns-5
-returns-5 c = performs ((λ i. attribute (attributeOf (c .before .before .before .before .before .before .before .before .before .before .before .before .before .args .code) (c .before .before .before .word-at6 .ensures i) (c .before .before .four-floats .ensures i))) ∙ is-attribute (c .before .before .before .before .before .before .before .before .before .before .before .before .before .args .bytes .now) _ (c .before .before .before .before .before .before .before .before .before .before .before .before .before .args .code) (c .before .before .before .before .before .before .before .before .before .before .before .before .before .args .w .now) (c .before .before .before .before .before .before .if3 .left) (c .before .before .before .before .before .if4 .left) (c .before .before .before .before .if5 .taken)) (c .replied4 .ensures) (c .before .make-attribute .ensures) refl refl
+returns-5 c = performs (is-attribute (c .before .before .before .before .before .before .before .before .before .before .before .args .bytes .now) _ (c .before .before .before .before .before .before .before .before .before .before .before .args .code) (c .before .before .before .before .before .before .before .before .before .before .before .args .w .now) (c .before .before .before .before .if3 .left) (c .before .before .before .if4 .left) (c .before .before .if5 .taken)) (c .replied4 .ensures) (c .before .attribute-record .ensures) refl refl
 
 returns-6 : tie.Need-returns-6
-returns-6 c = performs ((λ i. pipeline (pipelineOf (c .before .before .before .before .before .before .before .before .before .before .before .before .before .before .before .args .code) (c .before .before .before .before .word-at7 .ensures i) (c .before .before .before .word-at8 .ensures i) (c .before .before .four-floats2 .ensures i))) ∙ is-pipeline (c .before .before .before .before .before .before .before .before .before .before .before .before .before .before .before .args .bytes .now) _ (c .before .before .before .before .before .before .before .before .before .before .before .before .before .before .before .args .code) (c .before .before .before .before .before .before .before .before .before .before .before .before .before .before .before .args .w .now) (c .before .before .before .before .before .before .before .before .if3 .left) (c .before .before .before .before .before .before .before .if4 .left) (c .before .before .before .before .before .before .if5 .left) (c .before .before .before .before .before .if6 .taken)) (c .replied5 .ensures) (c .before .make-pipeline .ensures) refl refl
+returns-6 c = performs (is-pipeline (c .before .before .before .before .before .before .before .before .before .before .before .before .args .bytes .now) _ (c .before .before .before .before .before .before .before .before .before .before .before .before .args .code) (c .before .before .before .before .before .before .before .before .before .before .before .before .args .w .now) (c .before .before .before .before .before .if3 .left) (c .before .before .before .before .if4 .left) (c .before .before .before .if5 .left) (c .before .before .if6 .taken)) (c .replied5 .ensures) (c .before .pipeline-record .ensures) refl refl
 
 returns-7 : tie.Need-returns-7
 returns-7 c = performs-value (is-take-error (c .before .before .before .before .before .before .before .before .before .before .before .before .args .bytes .now) _ (c .before .before .before .before .before .before .before .before .before .before .before .before .args .code) (c .before .before .before .before .before .before .before .before .before .before .before .before .args .w .now) (c .before .before .before .before .before .if3 .left) (c .before .before .before .before .if4 .left) (c .before .before .before .if5 .left) (c .before .before .if6 .left) (c .before .if7 .taken)) (c .make-take-error .ensures) refl
@@ -51,19 +51,10 @@ perform-spec =
     returns-3
     (λ c κs. search needs)
     (λ c κs. search needs)
-    (λ c κs. search needs)
-    (λ c κs. search needs)
-    (λ c κs. search needs)
-    (λ c κs. search needs)
     returns-4
     (λ c κs. search needs)
     (λ c κs. search needs)
-    (λ c κs. search needs)
-    (λ c κs. search needs)
     returns-5
-    (λ c κs. search needs)
-    (λ c κs. search needs)
-    (λ c κs. search needs)
     (λ c κs. search needs)
     (λ c κs. search needs)
     returns-6
