@@ -41,6 +41,8 @@ pub enum Call {
     ClientState(u32, bool),
     ClientUnit(u32),
     Color([f32; 4]),
+    /// Any call by its code and words, for the library alone.
+    Coded(u32, Vec<u32>),
     Draw(Draw),
 }
 
@@ -52,4 +54,17 @@ pub struct Work {
     /// The triangles of `again`, and of its last draw.
     pub triangles: usize,
     pub last: usize,
+}
+
+impl Work {
+    /// The same work up to each of its draws.
+    pub fn up_to_each_draw(&self) -> impl Iterator<Item = Work> + '_ {
+        let ends = (0..self.again.len()).filter(|&i| matches!(self.again[i], Call::Draw(_)));
+        ends.map(|end| Work {
+            first: self.first.clone(),
+            again: self.again[..=end].to_vec(),
+            guest: self.guest.clone(),
+            ..*self
+        })
+    }
 }

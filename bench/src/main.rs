@@ -5,7 +5,7 @@ mod mix;
 mod ours;
 mod theirs;
 
-use call::{Call, Work, ARRAY, FLOAT};
+use call::{Call, Work, ARRAY, ELEMENTS, FLOAT};
 use ours::Ours;
 use pocket::raster;
 use std::hint::black_box;
@@ -42,6 +42,7 @@ fn main() {
     draws(&plan);
     floors(&plan);
     states(&plan);
+    other_states(&plan);
 }
 
 /// One side alone, for a profiler: the draws of 100 triangles and the state calls.
@@ -103,9 +104,7 @@ fn both(work: &Work, plan: &Plan, mut beside: impl FnMut()) -> (f64, f64) {
     raster::keep(work.last.max(1));
     let mut theirs = Theirs::new(work);
     let mut ours = Ours::new(work, 51 * work.last);
-    if work.last > 0 {
-        compare(work, &mut theirs, &mut ours);
-    }
+    work.up_to_each_draw().for_each(|part| compare(&part));
     let (mut t, mut o) = (f64::MAX, f64::MAX);
     let times = [count(plan, |n| theirs.run(n)), count(plan, |n| ours.run(n))];
     let mut start = f64::MAX;
@@ -119,7 +118,9 @@ fn both(work: &Work, plan: &Plan, mut beside: impl FnMut()) -> (f64, f64) {
 }
 
 /// Are the words of the last draw the same? Any NaN equals any.
-fn compare(work: &Work, theirs: &mut Theirs, ours: &mut Ours) {
+fn compare(work: &Work) {
+    let mut theirs = Theirs::new(work);
+    let mut ours = Ours::new(work, 51 * work.last);
     theirs.run(1);
     let words = theirs.words();
     assert_eq!(words.len(), 51 * work.last, "the Rust drew another number of triangles");
@@ -236,4 +237,76 @@ fn states(plan: &Plan) {
         let (theirs, ours) = (theirs / each, ours / each);
         println!("| {name} | {theirs:.1} | {ours:.1} | {:.2} |", ours / copy);
     }
+}
+
+/// Every other state call, by its code and words (crates/records/specs/Encoding.antt).
+fn other_calls() -> Vec<(&'static str, Vec<(u32, Vec<u32>)>)> {
+    let f = |numbers: &[f32]| numbers.iter().map(|x| x.to_bits()).collect::<Vec<u32>>();
+    let unit: Vec<u32> = (0..16).map(|i| f32::to_bits((i % 5 == 0) as u32 as f32)).collect();
+    let one = |code: u32, words: Vec<u32>| vec![(code, words)];
+    let made_and_deleted = vec![(0x21, vec![ELEMENTS, 2]), (0x22, vec![2])];
+    vec![
+        ("set_matrix_mode", one(0x10, vec![0x1700])),
+        ("set_matrix_mode, refused", one(0x10, vec![0])),
+        ("load_identity", one(0x11, vec![])),
+        ("load_matrix", one(0x12, unit.clone())),
+        ("mult_matrix", one(0x13, unit)),
+        ("pop_matrix, refused", one(0x15, vec![])),
+        ("scale", one(0x17, f(&[1.0, 1.0, 1.0]))),
+        ("rotate", one(0x18, f(&[1.0, 0.0, 1.0, 0.0, 0.0]))),
+        ("frustum", one(0x1a, f(&[-1.0, 1.0, -1.0, 1.0, 1.0, 3.0]))),
+        ("frustum, refused", one(0x1a, f(&[1.0, 1.0, -1.0, 1.0, 1.0, 3.0]))),
+        ("ortho", one(0x1b, f(&[-1.0, 1.0, -1.0, 1.0, -1.0, 1.0]))),
+        ("ortho, refused", one(0x1b, f(&[1.0, 1.0, -1.0, 1.0, -1.0, 1.0]))),
+        ("bind_buffer of a new name, delete_buffers", made_and_deleted),
+        ("gen_buffers of no name", one(0x20, vec![0, 0])),
+        ("gen_buffers, refused", one(0x20, vec![17, 0])),
+        ("buffer_sub_data of 4,096 bytes", one(0x24, vec![ARRAY, 0, 0, 0, 4096, 0])),
+        ("set_color_pointer", one(0x31, vec![4, 0x1401, 0, 4096])),
+        ("set_normal_pointer", one(0x32, vec![FLOAT, 0, 4096])),
+        ("set_texcoord_pointer", one(0x33, vec![2, FLOAT, 0, 4096])),
+        ("set_client_state", one(0x34, vec![0x8074, 1])),
+        ("set_client_active_texture", one(0x35, vec![0x84c1])),
+        ("set_multi_texcoord", one(0x37, vec![0x84c0, 0, 0])),
+        ("set_active_texture", one(0x40, vec![0x84c1])),
+        ("set_capability", one(0x41, vec![0x0b71, 1])),
+        ("tex_env", one(0x42, vec![0x2200, 0x2100])),
+        ("set_tex_env_color", one(0x43, vec![0; 4])),
+        ("set_depth_func", one(0x44, vec![0x0201])),
+        ("set_alpha_func", one(0x45, vec![0x0201, 0])),
+        ("set_blend_func", one(0x46, vec![1, 0])),
+        ("set_cull_face", one(0x47, vec![0x0404])),
+        ("set_front_face", one(0x48, vec![0x0900])),
+        ("set_fog", one(0x49, vec![0x0b62, 0])),
+        ("set_depth_range", one(0x4a, vec![0, 0])),
+        ("take_error", one(0x50, vec![])),
+    ]
+}
+
+fn other_states(plan: &Plan) {
+    println!("\n## The other state calls, ns a call, this library alone\n");
+    println!("| call | ours | copies of a context in and out |\n|---|---|---|");
+    let mut copies = Copies::new();
+    let times = count(plan, |n| copies.run(n));
+    let mut most = 0.0f64;
+    for (name, calls) in other_calls().into_iter().filter(|(name, _)| plan.is_chosen(name)) {
+        let calls = calls.into_iter().map(|(code, words)| Call::Coded(code, words));
+        let again = vec![calls.collect::<Vec<Call>>(); LIST].concat();
+        let each = again.len() as f64;
+        let mut work = state_work(again);
+        work.first.push(Call::Data(ARRAY, vec![7; 4096]));
+        let mut ours = Ours::new(&work, 0);
+        ours.check();
+        let n = count(plan, |n| ours.run(n));
+        let (mut start, mut best, mut copy) = (f64::MAX, f64::MAX, f64::MAX);
+        for _ in 0..plan.rounds {
+            start = start.min(time(|| ours.run(0)));
+            best = best.min(time(|| ours.run(n)));
+            copy = copy.min(time(|| copies.run(times)) / times as f64);
+        }
+        let ns = (best - start) / n as f64 / each;
+        most = most.max(ns / copy);
+        println!("| {name} | {ns:.1} | {:.2} |", ns / copy);
+    }
+    println!("\nMost: {most:.2}.");
 }

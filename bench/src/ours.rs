@@ -106,6 +106,7 @@ fn record(call: &Call, guest: usize, room: usize, bytes: &mut Vec<u8>) -> (u32, 
         Call::ClientState(array, on) => (0x34, vec![*array, *on as u32]),
         Call::ClientUnit(unit) => (0x35, vec![*unit]),
         Call::Color(c) => (0x36, bits(c)),
+        Call::Coded(code, words) => (*code, words.clone()),
         Call::Draw(draw) => draw_record(draw, guest, room),
     }
 }

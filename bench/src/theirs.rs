@@ -91,6 +91,7 @@ fn make(c: &mut Context, guest: &mut Guest, call: &Call) {
         Call::ClientState(array, on) => c.set_client_state(*array, *on),
         Call::ClientUnit(unit) => c.set_client_active_texture(*unit),
         Call::Color(color) => c.current_color = *color,
+        Call::Coded(..) => unreachable!("a call for the library alone"),
         Call::Draw(draw) => make_draw(c, guest, draw),
     }
 }

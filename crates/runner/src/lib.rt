@@ -104,7 +104,7 @@ fn next_size(words: &[u32], place: usize) -> usize
 }
 
 // Makes the calls of a list, one after the other. The loop puts back the part that a call changes, and the error slot: the rest of the context is
-// not copied. Only a matrix or mode call has the whole context back.
+// not copied. After push, pop and a mode call the whole context comes back, which measured no slower.
 pub fn run_on(
     c: Context,
     words: &[u32],
@@ -140,7 +140,9 @@ pub fn run_on(
             c = r.context;
         } else if code < 0x20 {
             let r = records::make_update(c, code, words::matrix_floats(w));
-            c = r.context;
+            let part = r.context.stacks;
+            c.stacks = part;
+            c.error = r.context.error;
         } else if code < 0x30 {
             let r = buffer_records::make_buffer(c, &mut store[..], code, w, bytes);
             let part = r.context.buffers;
