@@ -1,13 +1,15 @@
 -- A call changes its own part of the context and the error slot, whether it is valid or not. Assumes nothing.
-use mathlib.Core.Bool.{Bool, true, false, true≢false}
+use mathlib.Core.Bool.{Bool, true, false, cond, true≢false}
 use mathlib.Core.List.{List}
 use mathlib.Core.Logic.{_⊎_, inl, inr, ⊎-elim}
-use mathlib.Core.Path.{_≡_, refl, sym, subst}
+use mathlib.Core.Path.{_≡_, refl, sym, ap, subst}
 use Prim.Native.Nat.{ℕ, zero, suc, _<_, _≤_}
 use native.Mathlib.Omega.{arith}
 use borrow.Author.Tests.{lt-ltb, le-ltb}
+use lib.Dec.{ltb, eqb}
 use lib.ListN.{length}
 use Rattle.stack.specs.Stack as stack
+use Rattle.stack.specs.Stack.{limit, MatrixUpdate, updateNumber, update, push, pop, answer, changed, stackAnswer}
 use Rattle.stack.specs.declared.MatrixStack.{MatrixStack}
 use Rattle.buffers.specs.Objects as buffer
 use Rattle.buffers.specs.Objects.{nameAt, lenAt, slotOf, slotBytes, storeBytes, Bindable, SlotSound}
@@ -22,7 +24,7 @@ use Rattle.context.specs.declared.Context.{Context}
 use Rattle.context.specs.State.{stackAt, view, Sound}
 use Rattle.context.specs.Calls.{buffer, array, borrowsStore, Call, matrix, mode, object, attribute, pipeline, takeError, draw}
 use Rattle.context.specs.Rules.{step}
-use Rattle.context.specs.Contract.{stacksAfter, putStacks, putMode, putBuffers, putArrays, putAttributes, putPipeline, putError, Valid, Follows, Did}
+use Rattle.context.specs.Contract.{putStack, stacksAfter, currentsOf, withCurrent, putCurrents, putStacks, putMode, putBuffers, putArrays, putAttributes, putPipeline, putError, Valid, Follows, Did}
 
 -- ---- a call is valid or it is not
 
@@ -80,7 +82,7 @@ buffers-decided b =
     (both (all-below (slot-decided b) 16) (both (bindable-decided (b .slots) (b .«array_buffer»)) (bindable-decided (b .slots) (b .«element_buffer»))))
 
 stack-decided : (s : MatrixStack) → Decided (stack.Sound s)
-stack-decided s = decided-by (λ x. record { places = x .0; within = x .1 }) (λ h. (h .places, h .within)) (both (same? (length (s .saved)) stack.limit) (at-most (s .depth) stack.limit))
+stack-decided s = decided-by (λ x. record { places = x .0; within = x .1 }) (λ h. (h .places, h .within)) (both (same? (length (s .saved)) limit) (at-most (s .depth) limit))
 
 stacks-decided : (t : Stacks) → Decided ((m : MatrixMode) → stack.Sound (stackAt m t))
 stacks-decided t =
@@ -106,7 +108,9 @@ valid-decided k c s =
 
 -- the context c with the part that the call may change, and the error slot, as they are in c1
 abbrev pub changedIn : Call → Context → Context → Context
-changedIn (matrix k) c c1 = putError (c1 .error) (putStacks (c1 .stacks) c)
+changedIn (matrix (update u)) c c1 = putError (c1 .error) (putStacks (putCurrents (currentsOf (c1 .stacks)) (c .stacks)) c)
+changedIn (matrix push) c c1 = putError (c1 .error) (putStacks (c1 .stacks) c)
+changedIn (matrix pop) c c1 = putError (c1 .error) (putStacks (c1 .stacks) c)
 changedIn (mode code) c c1 = putError (c1 .error) (putMode (c1 .mode) c)
 changedIn (object (buffer k)) c c1 = putError (c1 .error) (putBuffers (c1 .buffers) c)
 changedIn (object (array k)) c c1 = putError (c1 .error) (putArrays (c1 .arrays) c)
@@ -116,7 +120,9 @@ changedIn takeError c c1 = putError (c1 .error) c
 changedIn (draw d) c c1 = putError (c1 .error) c
 
 unchanged : (k : Call) (c : Context) → changedIn k c c ≡ c
-unchanged (matrix k) c = refl
+unchanged (matrix (update u)) c = refl
+unchanged (matrix push) c = refl
+unchanged (matrix pop) c = refl
 unchanged (mode code) c = refl
 unchanged (object (buffer k)) c = refl
 unchanged (object (array k)) c = refl
@@ -125,6 +131,21 @@ unchanged (pipeline k) c = refl
 unchanged takeError c = refl
 unchanged (draw d) c = refl
 
+-- an update changes the current matrix alone
+update-current : (u : MatrixUpdate) (s : MatrixStack) → withCurrent (stackAnswer (update u) s .stack .current) s ≡ stackAnswer (update u) s .stack
+unfolding stackAnswer
+update-current u s = go (ltb limit (s .depth)) (eqb (updateNumber u) 0)
+  where
+    go : (b d : Bool) → let a = cond b (answer 1 s) (cond d (answer 0 (changed (update u) s)) (answer (updateNumber u) s)) in withCurrent (a .stack .current) s ≡ a .stack
+    go true d = refl
+    go false true = refl
+    go false false = refl
+
+update-currents : (u : MatrixUpdate) (m : MatrixMode) (t : Stacks) → let t1 = putStack m (stackAnswer (update u) (stackAt m t) .stack) t in putCurrents (currentsOf t1) t ≡ t1
+update-currents u MatrixMode.Modelview t = ap (λ (x : MatrixStack). putStack MatrixMode.Modelview x t) (update-current u (t .modelview))
+update-currents u MatrixMode.Projection t = ap (λ (x : MatrixStack). putStack MatrixMode.Projection x t) (update-current u (t .projection))
+update-currents u MatrixMode.Texture t = ap (λ (x : MatrixStack). putStack MatrixMode.Texture x t) (update-current u (t .texture))
+
 module _ {c c1 : Context} {n : ℕ} {s s1 : List ℕ} where
   -- all that the rule says of the parts
   ruled : (k : Call) → Follows k c s n c1 s1 → (b : Buffers) → b ≡ c1 .buffers
@@ -132,7 +153,11 @@ module _ {c c1 : Context} {n : ℕ} {s s1 : List ℕ} where
   ruled k f b e = let p = sym (f .state) in λ i. record { mode = p i .mode; stacks = sym (f .stacks) i; buffers = e i; arrays = p i .objects .arrays; attributes = p i .attributes; pipeline = p i .pipeline; error = c1 .error }
 
   valid-changes : (k : Call) → Follows k c s n c1 s1 → changedIn k c c1 ≡ c1
-  valid-changes (matrix k) f = λ i. putStacks (c1 .stacks) (ruled (matrix k) f (c .buffers) (sym (f .slots refl)) i)
+  valid-changes (matrix (update u)) f =
+      let q = subst (λ (x : Stacks). putCurrents (currentsOf x) (c .stacks) ≡ x) (sym (f .stacks)) (update-currents u (c .mode) (c .stacks)) in
+      λ i. putStacks (q i) (ruled (matrix (update u)) f (c .buffers) (sym (f .slots refl)) i)
+  valid-changes (matrix push) f = λ i. putStacks (c1 .stacks) (ruled (matrix push) f (c .buffers) (sym (f .slots refl)) i)
+  valid-changes (matrix pop) f = λ i. putStacks (c1 .stacks) (ruled (matrix pop) f (c .buffers) (sym (f .slots refl)) i)
   valid-changes (mode code) f = λ i. putMode (c1 .mode) (ruled (mode code) f (c .buffers) (sym (f .slots refl)) i)
   valid-changes (object (buffer k)) f = ruled (object (buffer k)) f (c1 .buffers) refl
   valid-changes (object (array k)) f = λ i. putArrays (c1 .arrays) (ruled (object (array k)) f (c .buffers) (sym (f .slots refl)) i)

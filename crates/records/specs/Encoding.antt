@@ -9,7 +9,7 @@ use lib.Ieee.{Float}
 use Rattle.number.specs.Tables.{Row, _names_, lookup}
 use Rattle.words.specs.Words.{wordAt, longAt, switch, fourFloats, matrixFloats, bytesAt}
 use Rattle.matrix.specs.Matrix.{at}
-use Rattle.stack.specs.Stack.{loadIdentity, load, mult, translate, scale, rotate, frustum, ortho, MatrixCall, update, push, pop}
+use Rattle.stack.specs.Stack.{loadIdentity, load, mult, translate, scale, rotate, frustum, ortho, MatrixUpdate, MatrixCall, update, push, pop}
 use Rattle.arrays.specs.Arrays.{ArrayCall, vertexPointer, colorPointer, normalPointer, texcoordPointer, clientState, clientUnit}
 use Rattle.arrays.specs.Attributes.{AttributeCall, color, multiTexcoord}
 use Rattle.pipeline.specs.Pipeline.{PipelineCall, activeTexture, capability, texEnv, texEnvColor, depthFunc, depthRange, alphaFunc, blendFunc, cullFace, frontFace, fog}
@@ -23,25 +23,25 @@ abbrev pub rowOr : {A : Type 0} → List (Row A) → ℕ → A → A
 rowOr rows code last = Option·getD (lookup rows code) last
 
 -- f: the words as f32
-abbrev pub matrixRows : List Float → List (Row MatrixCall)
-matrixRows f =
-    0x11 names update loadIdentity
-    ∷ 0x12 names update (load f)
-    ∷ 0x13 names update (mult f)
-    ∷ 0x14 names push
-    ∷ 0x15 names pop
-    ∷ 0x16 names update (translate (at f 0) (at f 1) (at f 2))
-    ∷ 0x17 names update (scale (at f 0) (at f 1) (at f 2))
-    ∷ 0x18 names update (rotate (at f 0) (at f 1) (at f 2) (at f 3) (at f 4))
-    ∷ 0x1a names update (frustum (at f 0) (at f 1) (at f 2) (at f 3) (at f 4) (at f 5))
+abbrev pub updateRows : List Float → List (Row MatrixUpdate)
+updateRows f =
+    0x11 names loadIdentity
+    ∷ 0x12 names load f
+    ∷ 0x13 names mult f
+    ∷ 0x16 names translate (at f 0) (at f 1) (at f 2)
+    ∷ 0x17 names scale (at f 0) (at f 1) (at f 2)
+    ∷ 0x18 names rotate (at f 0) (at f 1) (at f 2) (at f 3) (at f 4)
+    ∷ 0x1a names frustum (at f 0) (at f 1) (at f 2) (at f 3) (at f 4) (at f 5)
     ∷ []
 
-unfoldable pub matrixOf : ℕ → List Float → MatrixCall
-matrixOf code f = rowOr (matrixRows f) code (update (ortho (at f 0) (at f 1) (at f 2) (at f 3) (at f 4) (at f 5)))
+unfoldable pub updateOf : ℕ → List Float → MatrixUpdate
+updateOf code f = rowOr (updateRows f) code (ortho (at f 0) (at f 1) (at f 2) (at f 3) (at f 4) (at f 5))
 
--- for the code, which has push and pop apart: their codes count as the last
-abbrev pub updateCode : ℕ → ℕ
-updateCode code = cond (eqb code 0x14) 0x1b (cond (eqb code 0x15) 0x1b code)
+abbrev pub stackRows : List (Row MatrixCall)
+stackRows = 0x14 names push ∷ 0x15 names pop ∷ []
+
+unfoldable pub matrixOf : ℕ → List Float → MatrixCall
+matrixOf code f = rowOr stackRows code (update (updateOf code f))
 
 -- w: the words
 abbrev pub dataOf : List ℕ → List ℕ → BufferCall

@@ -3,9 +3,10 @@ use context::Context;
 use context::Reply;
 ghost use mathlib.Core.Bool.{true};
 ghost use mathlib.Core.Path.{_≡_};
+ghost use Rattle.stack.specs.Stack.{MatrixCall};
 ghost use Rattle.context.specs.Calls.{Call, ObjectCall};
 ghost use Rattle.words.specs.Words.{wordAt, fourFloats};
-ghost use Rattle.records.specs.Encoding.{matrixOf, updateCode, arrayOf, attributeOf, pipelineOf, isRecord};
+ghost use Rattle.records.specs.Encoding.{updateOf, matrixOf, arrayOf, attributeOf, pipelineOf, isRecord};
 ghost use Rattle.records.specs.Perform.{Makes, Gives, replyOf};
 
 // What a call answers: besides its number the first name of gen_buffers, the code of take_error or the count of a draw. `known` is false where the words were no record's.
@@ -20,7 +21,7 @@ pub struct CallReply {
 
 // The calls that update a matrix, apart from push and pop, for which a stack is copied.
 pub fn make_update(c: Context, code: u32, f: [f32; 16]) -> Reply
-    ensures { λ r. ⌜ Makes (Call.matrix (matrixOf (updateCode code) f)) c (r .number) (r .context) ⌝ }
+    ensures { λ r. ⌜ Makes (Call.matrix (MatrixCall.update (updateOf code f))) c (r .number) (r .context) ⌝ }
 {
     match code {
         0x11 => gles::load_identity(c),

@@ -11,14 +11,15 @@ use lib.Ieee.{Float}
 use Rattle.context.specs.declared.Context.{Context}
 use Rattle.context.specs.declared.DrawReply.{DrawReply}
 use Rattle.draw.specs.Scene.{DrawCall}
-use Rattle.stack.specs.Stack.{push, pop}
+use Rattle.stack.specs.Stack.{MatrixUpdate, update, push, pop}
 use Rattle.context.proofs.Parts.{changedIn, changes-part}
+use Rattle.context.specs.Contract.{putCurrents, putStacks, putError}
 use Rattle.context.specs.Calls.{BufferCall, buffer, array, Call, matrix, mode, object, attribute, pipeline, takeError, draw}
 use Rattle.history.specs.Demand3.{Made}
 use Rattle.history.proofs.Demand3.{made-did}
 use Rattle.records.specs.declared.CallReply.{CallReply}
 use Rattle.words.specs.Words.{wordAt, fourFloats, matrixFloats}
-use Rattle.records.specs.Encoding.{matrixOf, updateCode, bufferOf, arrayOf, attributeOf, pipelineOf, sourceOf, drawOfWords, callOf, isRecord, recordCall}
+use Rattle.records.specs.Encoding.{updateOf, matrixOf, bufferOf, arrayOf, attributeOf, pipelineOf, sourceOf, drawOfWords, callOf, isRecord, recordCall}
 use Rattle.records.specs.Perform.{Makes, isDraw, valueOf, Gives, DrewIn, replyOf, called, drew, Performs, was-made, was-unknown}
 use Rattle.buffer_records.proofs.Answers.{Answers}
 use Rattle.runner.specs.Run.{Changes}
@@ -47,8 +48,9 @@ module _ (bytes : List ℕ) (room code : ℕ) (w : List ℕ) where
   unfolding callOf matrixOf
   is-pop e = rw e
 
-  pub is-update : (code ≡ 0x14 → ⊥) → (code ≡ 0x15 → ⊥) → (code ≡ 0x10 → ⊥) → code < 0x20 → matrix (matrixOf (updateCode code) (matrixFloats w)) ≡ callOf bytes room code w
-  is-update p q n h = ap (λ (k : ℕ). matrix (matrixOf k (matrixFloats w))) (rw (ne-eqb code 0x14 p, ne-eqb code 0x15 q)) ∙ is-matrix n h
+  pub is-update : (code ≡ 0x14 → ⊥) → (code ≡ 0x15 → ⊥) → (code ≡ 0x10 → ⊥) → code < 0x20 → matrix (update (updateOf code (matrixFloats w))) ≡ callOf bytes room code w
+  unfolding matrixOf
+  is-update p q n h = ap matrix (rw (ne-eqb code 0x14 p, ne-eqb code 0x15 q)) ∙ is-matrix n h
 
   module _ (l : 0x30 ≤ code) where
     pub is-array : code < 0x36 → object (array (arrayOf code (wordAt w 0) (wordAt w 1) (wordAt w 2) (wordAt w 3))) ≡ callOf bytes room code w
@@ -117,3 +119,13 @@ module _ {k′ : Call} {c : Context} {out : List Float} where
 -- where the loop puts back the part that the call changes, it has the context that the call left
 pub placed : {k : Call} {c c1 c2 : Context} {n : ℕ} {s s1 : List ℕ} → Made c s k n c1 s1 → c2 ≡ changedIn k c c1 → c2 ≡ c1
 placed m e = e ∙ changes-part (made-did m)
+
+abbrev currentsPut : Context → ℕ → List Float → List Float → List Float → Context
+currentsPut c error view lens coordinates =
+    putError error (putStacks (putCurrents (record { modelview = record { entries = view }; projection = record { entries = lens }; texture = record { entries = coordinates } }) (c .stacks)) c)
+
+-- the same where it replaces the current matrices, one after the other
+pub currents-placed : {u : MatrixUpdate} {c c1 c2 : Context} {n : ℕ} {s s1 : List ℕ} {view lens coordinates : List Float} → Made c s (matrix (update u)) n c1 s1
+    → view ≡ c1 .stacks .modelview .current .entries → lens ≡ c1 .stacks .projection .current .entries → coordinates ≡ c1 .stacks .texture .current .entries
+    → c2 ≡ currentsPut c (c1 .error) view lens coordinates → c2 ≡ c1
+currents-placed {c = c} {c1 = c1} m p q r e = placed m (e ∙ (λ i. currentsPut c (c1 .error) (p i) (q i) (r i)))

@@ -23,7 +23,7 @@ use Rattle.draw.specs.Scene.{Source, list, range, elements}
 use Rattle.context.specs.Calls.{BufferCall, gen, bind, delete, bufferData, bufferSubData, buffer, array, Call, matrix, mode, object, attribute, pipeline, takeError, draw}
 use Rattle.context.specs.Contract.{drawCall}
 use Rattle.words.specs.Words.{long, switch, floatAt, bytesAt}
-use Rattle.records.specs.Encoding.{matrixOf, bufferOf, arrayOf, attributeOf, pipelineOf, sourceOf, callOf, recordSizes, isSize, isRecord}
+use Rattle.records.specs.Encoding.{updateOf, matrixOf, bufferOf, arrayOf, attributeOf, pipelineOf, sourceOf, callOf, recordSizes, isSize, isRecord}
 use Rattle.buffers.specs.Objects.{storeBytes}
 use Rattle.history.specs.Demand3.{History}
 use Rattle.runner.specs.declared.RunReply.{RunReply}
@@ -87,7 +87,7 @@ module _ (area : List ℕ) (room place : ℕ) where
   Lies l = bytesAt area place (length (borrowedBy l)) ≡ borrowedBy l
 
   matrix-read : (k : MatrixCall) → All InType (matrixRecord k .arguments) → ReadAs (matrixRecord k) (matrix k)
-  unfolding matrixRecord wordsOf isRecord callOf matrixOf
+  unfolding matrixRecord wordsOf isRecord callOf updateOf matrixOf
   matrix-read (update loadIdentity) h = (refl, refl)
   matrix-read (update (load m)) (a, u) = (ap (isRecord 0x12) (array-length 16 m a), λ i. matrix (update (load (array-is 16 m a i))))
   matrix-read (update (mult m)) (a, u) = (ap (isRecord 0x13) (array-length 16 m a), λ i. matrix (update (mult (array-is 16 m a i))))

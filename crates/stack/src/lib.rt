@@ -11,11 +11,11 @@ pub struct Matrix {
 // How many matrices a stack saves.
 pub const SAVED_LIMIT: usize = 15;
 
-// A current matrix, and `depth` saved ones: the first of `saved`.
+// A current matrix, and `depth` saved ones: the first of `saved`. With the number between the two, the compiler can copy the one without the other.
 pub struct MatrixStack {
     pub current: Matrix,
-    pub saved: [Matrix; SAVED_LIMIT],
     pub depth: usize,
+    pub saved: [Matrix; SAVED_LIMIT],
 }
 
 // A call's number, 0 for done, and the stack after it.

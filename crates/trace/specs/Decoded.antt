@@ -10,7 +10,7 @@ use lib.Ieee.{Float, binary32, ofBits}
 use Rattle.words.specs.Words.{bytesAt, matrixFloats}
 use Rattle.stack.specs.Stack.{mult, rotate, update}
 use Rattle.context.specs.Calls.{gen, delete, bufferData, bufferSubData, buffer, Call, matrix, object}
-use Rattle.records.specs.Encoding.{isRecord, matrixOf, bufferOf, callOf, recordCall}
+use Rattle.records.specs.Encoding.{isRecord, updateOf, matrixOf, bufferOf, callOf, recordCall}
 use Rattle.trace.specs.Calls.{identityWords, madeWords, callWords, callCode}
 
 -- the call of a record, whose words are w and whose bytes are those of its words
@@ -22,11 +22,11 @@ f = ofBits binary32
 
 module _ (bytes : List ℕ) (room : ℕ) where
   rotates : (c s x y z a u v w : ℕ) → decoded bytes room 0x18 (c ∷ s ∷ x ∷ y ∷ z ∷ a ∷ u ∷ v ∷ w ∷ []) ≡ some (matrix (update (rotate (f c) (f s) (f x) (f y) (f z))))
-  unfolding isRecord callOf matrixOf callWords callCode
+  unfolding isRecord callOf updateOf matrixOf callWords callCode
   rotates c s x y z a u v w = refl
 
   no-axis : (a x y z : ℕ) → decoded bytes room 0x19 (a ∷ x ∷ y ∷ z ∷ []) ≡ some (matrix (update (mult (matrixFloats identityWords))))
-  unfolding isRecord callOf matrixOf madeWords callWords callCode
+  unfolding isRecord callOf updateOf matrixOf madeWords callWords callCode
   no-axis a x y z = refl
 
   generates : (n : ℕ) → decoded bytes room 0x20 (n ∷ []) ≡ some (object (buffer (gen n)))
