@@ -31,9 +31,9 @@ use Rattle.pipeline.specs.Pipeline.{PipelineCall, pipelineStep, freshPipeline}
 use Rattle.pipeline.specs.declared.Pipeline.{Pipeline}
 use Rattle.pipeline.specs.declared.PipelineAnswer.{PipelineAnswer}
 use Rattle.pipeline.proofs.Laws.{refusal-keeps, active-stays}
-use Rattle.draw.specs.Scene.{Source, DrawCall, sceneIn}
+use Rattle.vertex.specs.Scene.{Source, DrawCall, sceneIn}
+use Rattle.vertex.specs.declared.Scene.{Scene}
 use Rattle.draw.specs.Draw.{drawIn, Draws}
-use Rattle.draw.specs.declared.Scene.{Scene}
 use Rattle.draw.specs.declared.Drawn.{Drawn}
 use Rattle.context.specs.declared.MatrixMode.{MatrixMode}
 use Rattle.context.specs.declared.Stacks.{Stacks}

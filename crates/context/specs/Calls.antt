@@ -6,7 +6,7 @@ use Rattle.stack.specs.Stack.{MatrixCall}
 use Rattle.arrays.specs.Arrays.{ArrayCall}
 use Rattle.arrays.specs.Attributes.{AttributeCall}
 use Rattle.pipeline.specs.Pipeline.{PipelineCall}
-use Rattle.draw.specs.Scene.{DrawCall}
+use Rattle.vertex.specs.Scene.{DrawCall}
 
 pub data BufferCall : Type 0 where
   gen : (n : ℕ) → BufferCall

@@ -16,8 +16,8 @@ use Rattle.arrays.specs.declared.Arrays.{Arrays}
 use Rattle.arrays.specs.declared.Attributes.{Attributes}
 use Rattle.pipeline.specs.declared.Pipeline.{Pipeline}
 use Rattle.matrix.specs.Matrix.{product}
-use Rattle.draw.specs.Scene.{Source, DrawCall}
-use Rattle.draw.specs.declared.Scene.{Scene}
+use Rattle.vertex.specs.Scene.{Source, DrawCall}
+use Rattle.vertex.specs.declared.Scene.{Scene}
 use Rattle.draw.specs.Draw.{Draws}
 use Rattle.draw.specs.declared.Drawn.{Drawn}
 use Rattle.context.specs.declared.MatrixMode.{MatrixMode}

@@ -13,7 +13,7 @@ use Rattle.arrays.specs.Attributes.{attributeStep}
 use Rattle.arrays.specs.declared.Attributes.{Attributes}
 use Rattle.pipeline.specs.Pipeline.{pipelineStep}
 use Rattle.pipeline.specs.declared.Pipeline.{Pipeline}
-use Rattle.draw.specs.Scene.{DrawState, DrawCall}
+use Rattle.vertex.specs.Scene.{DrawState, DrawCall}
 use Rattle.draw.specs.Draw.{Drawing, drawOf}
 use Rattle.context.specs.declared.MatrixMode.{MatrixMode}
 use Rattle.context.specs.State.{ObjectState, State}

@@ -1,6 +1,7 @@
 -- The corners of triangles, one after the other, and what stands of them in the output. Assumes nothing.
 use mathlib.Core.Bool.{Bool, true, false, cond}
 use mathlib.Core.List.{List, [], _∷_, _++_, append-assoc}
+use mathlib.Core.Option.{Option}
 use mathlib.Core.Path.{_≡_, refl, sym, ap, _∙_}
 use Prim.Native.Nat.{ℕ, zero, suc, _+_, _*_, _/_, _%_, _<_, _≤_}
 use native.Mathlib.Numerals.{add-one}
@@ -10,11 +11,18 @@ use lib.Dec.{eqb}
 use lib.ListN.{length, getD, take, drop, length-append, length-take, length-drop, take-append-drop}
 use lib.Seq.{sets, sets-eq, drop-cons, take-append-le, drop-append-le, take-append-seam, drop-append-seam, take-all}
 use lib.Ieee.{Float, nan}
-use Rattle.draw.specs.Vertex.{vertexWords}
+use Rattle.buffers.specs.Objects.{contentsOf}
+use Rattle.vertex.specs.Scene.{sceneIn}
+use Rattle.vertex.specs.Vertex.{vertexWords}
+use Rattle.vertex.specs.Plan.{planOf, sourcesOf, vertexIn, sources}
+use Rattle.vertex.specs.declared.Plan.{Plan}
+use Rattle.vertex.specs.declared.Scene as Code
+use Rattle.vertex.specs.declared.Vertex.{Vertex}
+use Rattle.vertex.proofs.Plans.{vertex-is}
 use Rattle.draw.specs.Triangles.{cornersOf, threeWords, trianglesTo, wordsOf}
-use Rattle.draw.specs.Plan.{cornerPlace, cornerWords, Stands}
+use Rattle.draw.specs.Corners.{cornerPlace, cornerIndex, cornerWords, Stands}
+use Rattle.draw.specs.Draw.{vertexAt}
 use Rattle.draw.specs.declared.Primitive.{Primitive}
-use Rattle.draw.specs.declared.Vertex.{Vertex}
 use Rattle.draw.proofs.Laws.{words-more}
 
 length-vertex : (v : Vertex) → length (vertexWords v) ≡ 17
@@ -135,3 +143,23 @@ pub words-read : (l : List Float) (at : ℕ) → at + 17 ≤ length l → getD l
 words-read l at h =
     ap (λ (r : List Float). getD l at nan ∷ r) (words-from l at 1 16 (omega arith) ∙ ap (λ (m : ℕ). take 16 (drop m l)) (add-one at))
     ∙ sym (ap (take 17) (drop-cons l at nan (omega arith)))
+
+-- ---- the corners of a draw
+
+module _ (s : Code.Scene) (store guest : List ℕ) (p : Primitive) (is : List ℕ) (count : ℕ) where
+  abbrev contents : ℕ → Option (List ℕ)
+  contents = contentsOf (s .buffers .slots) store
+
+  pub planned-words : {plan : Plan} {b b0 b1 b2 b3 b4 : List ℕ}
+      → plan ≡ planOf s contents
+      → b ≡ sourcesOf s contents guest .position
+      → b0 ≡ sourcesOf s contents guest .color
+      → b1 ≡ sourcesOf s contents guest .unit0
+      → b2 ≡ sourcesOf s contents guest .unit1
+      → b3 ≡ sourcesOf s contents guest .unit2
+      → b4 ≡ sourcesOf s contents guest .unit3
+      → cornerWords (λ q. vertexIn plan (sources b b0 b1 b2 b3 b4) (cornerIndex p is q)) (3 * count) ≡ wordsOf (trianglesTo (vertexAt (sceneIn s store guest) is) p count)
+  planned-words ep e e0 e1 e2 e3 e4 =
+      (λ i. cornerWords (λ q. vertexIn (ep i) (sources (e i) (e0 i) (e1 i) (e2 i) (e3 i) (e4 i)) (cornerIndex p is q)) (3 * count))
+      ∙ (λ i. cornerWords (λ q. vertex-is s store guest (cornerIndex p is q) i) (3 * count))
+      ∙ corner-words (vertexAt (sceneIn s store guest) is) p count

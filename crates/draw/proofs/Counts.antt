@@ -2,21 +2,22 @@
 use mathlib.Core.Bool.{Bool, true, false, not, cond}
 use mathlib.Core.List.{List, []}
 use mathlib.Core.Path.{_≡_, refl, sym, ap, subst, _∙_}
-use Prim.Native.Nat.{ℕ, _+_, _-_, _*_, _/_, _<_, _≤_}
+use Prim.Native.Nat.{ℕ, _+_, _-_, _*_, _<_, _≤_}
 use native.Mathlib.Omega.{arith}
-use borrow.Author.Tests.{ltb-true, ltb-false, eqb-true, eqb-false, not-true, not-false, ne-eqb, eq-eqb}
+use borrow.Author.Tests.{ltb-true, ltb-false, eqb-true, eqb-false, not-true, not-false, ne-eqb}
 use lib.Dec.{eqb, ltb, leb}
 use lib.ListN.{length}
-use Rattle.buffers.specs.Bounded.{firstFrom, first}
+use Rattle.buffers.specs.Bounded.{first}
 use Rattle.fetch.specs.Fetch.{Part, bytes, noBuffer, unreadable}
-use Rattle.draw.specs.Scene.{Scene, Source, list, range, elements}
-use Rattle.draw.specs.Index.{indexWidth, indexPart, indicesIn, indicesFrom, rangeCount, indexTotal}
+use Rattle.vertex.specs.Scene.{Scene, Source, list, range, elements}
+use Rattle.vertex.specs.Index.{indexWidth, indexPart, indicesIn, indicesFrom, rangeCount, indexTotal}
+use Rattle.vertex.specs.Questions.{positionAt, fails, failingPlace, hasVertices, listNumber, partNumber, elementsNumber, sourceNumber, viewNumber, validation}
+use Rattle.vertex.proofs.Search.{first-real}
+use Rattle.vertex.proofs.IndexLists.{length-upFrom, length-numbers}
+use Rattle.vertex.proofs.Sources.{part-there}
 use Rattle.draw.specs.Triangles.{triangleCount, Triangle}
-use Rattle.draw.specs.Draw.{primitiveOf, trianglesOf, positionAt, fails, failingPlace, hasVertices, listNumber, partNumber, elementsNumber, sourceNumber, viewNumber, validation, answered, drawIn, Drawing}
-use Rattle.draw.proofs.Laws.{first-real}
-use Rattle.draw.proofs.IndexLists.{length-upFrom, length-numbers}
+use Rattle.draw.specs.Draw.{primitiveOf, trianglesOf, drawIn, Drawing}
 use Rattle.draw.proofs.Drawing.{count-drawn}
-use Rattle.draw.proofs.Sources.{part-there}
 
 -- a question that is passed: its no has a number
 passed : (no : Bool) (number rest : ℕ) → (no ≡ true → number ≡ 0 → ⊥) → cond no number rest ≡ 0 → (no ≡ false) × (rest ≡ 0)

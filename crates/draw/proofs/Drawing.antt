@@ -1,46 +1,22 @@
 -- Each way out of a draw, over plain values. Assumes nothing.
-use mathlib.Core.Bool.{true, false}
-use mathlib.Core.List.{List}
-use mathlib.Core.Path.{_≡_, refl, sym, ap, _∙_}
+use mathlib.Core.List.{List, []}
+use mathlib.Core.Path.{_≡_, refl, ap, _∙_}
 use Prim.Native.Nat.{ℕ, _*_, _<_, _≤_}
 use native.Mathlib.Omega.{arith}
 use borrow.Author.Tests.{lt-ltb, le-ltb, ne-eqb}
 use lib.ListN.{length}
 use lib.Seq.{sets}
 use lib.Ieee.{Float}
-use Rattle.buffers.specs.Bounded.{first}
-use Rattle.draw.specs.Scene.{Scene}
+use Rattle.fetch.specs.Fetch.{Part, bytes, noBuffer, unreadable}
+use Rattle.vertex.specs.Scene.{Scene, Source, elements}
+use Rattle.vertex.specs.Index.{numbers, indexWidth, indexPart, indicesIn, indicesFrom}
+use Rattle.vertex.specs.Questions.{listNumber, validation}
+use Rattle.vertex.specs.declared.Vertex.{Vertex}
 use Rattle.draw.specs.Triangles.{triangleCount, Triangle, trianglesTo, wordsOf}
-use Rattle.draw.specs.Draw.{primitiveOf, vertexAt, trianglesOf, positionAt, fails, hasVertices, listNumber, answered, Draws}
+use Rattle.draw.specs.Draw.{primitiveOf, vertexAt, trianglesOf, answered, drawIn, Draws}
+use Rattle.draw.specs.declared.Drawn.{Drawn}
 use Rattle.draw.specs.declared.Primitive.{Primitive}
 use Rattle.draw.proofs.Laws.{count-triangles, words-stored}
-
--- ---- the questions
-
-module _ (s : Scene) (mode : ℕ) (is : List ℕ) where
-  pub no-vertices : hasVertices (s .arrays .vertex) ≡ false → 8 ≡ listNumber s mode is
-  unfolding listNumber
-  no-vertices e = rw e
-
-  module _ (e : hasVertices (s .arrays .vertex) ≡ true) (n : ℕ) (en : n ≡ length is) (place : ℕ) (ep : place ≡ first n (fails s is)) where
-    found : place ≡ first (length is) (fails s is)
-    found = ep ∙ ap (λ (k : ℕ). first k (fails s is)) en
-
-    pub no-position : place < n → (r : ℕ) → r ≡ positionAt s is place → r ≡ listNumber s mode is
-    unfolding listNumber
-    no-position h r f = let l : place < length is = omega arith in rw (e, sym found, lt-ltb _ _ l) f
-
-    pub no-mode : n ≤ place → 6 < mode → 0x0500 ≡ listNumber s mode is
-    unfolding listNumber
-    no-mode h m = let l : length is ≤ place = omega arith in rw (e, sym found, le-ltb _ _ l, lt-ltb _ _ m)
-
-    pub no-triangles : n ≤ place → mode ≤ 6 → mode < 4 → 10 ≡ listNumber s mode is
-    unfolding listNumber
-    no-triangles h m k = let l : length is ≤ place = omega arith in rw (e, sym found, le-ltb _ _ l, le-ltb _ _ m, lt-ltb _ _ k)
-
-    pub all-answered : n ≤ place → mode ≤ 6 → 4 ≤ mode → 0 ≡ listNumber s mode is
-    unfolding listNumber
-    all-answered h m k = let l : length is ≤ place = omega arith in rw (e, sym found, le-ltb _ _ l, le-ltb _ _ m, le-ltb _ _ k)
 
 -- ---- the output
 
@@ -64,3 +40,40 @@ module _ (ts : List Triangle) (out : List Float) where
   pub drawn : (count : ℕ) (out′ : List Float) → count ≡ length ts → 51 * length ts ≤ length out → out′ ≡ sets out 0 (wordsOf ts)
       → Draws (answered 0 (length out) ts) (record { number = 0; count = count }) out out′
   drawn count out′ e h stored = rw (le-ltb _ _ h) (record { number = refl; count = e; output = stored ∙ words-stored ts out h })
+
+-- ---- from the parts of a draw to the draw
+
+module _ (s : Scene) (element mode : ℕ) (source : Source) where
+  pub draw-refused : (out : List Float) (k : ℕ) → validation s element mode source ≡ k → (k ≡ 0 → ⊥) → Draws (drawIn s element mode source (length out)) (record { number = k; count = 0 }) out out
+  unfolding drawIn
+  draw-refused out k e h = rw e (refused-draw (trianglesOf s mode (indicesFrom s element source)) out k h)
+
+  pub draw-listed : (n room : ℕ) (is : List ℕ) (r : Drawn) (out out′ : List Float) → validation s element mode source ≡ n → indicesFrom s element source ≡ is
+      → Draws (answered n room (trianglesOf s mode is)) r out out′ → Draws (drawIn s element mode source room) r out out′
+  unfolding drawIn
+  draw-listed n room is r out out′ e f d = rw (e, f) d
+
+  pub draw-by-list : (room : ℕ) (is : List ℕ) (r : Drawn) (out out′ : List Float) → validation s element mode source ≡ listNumber s mode (indicesFrom s element source) → indicesFrom s element source ≡ is
+      → Draws (answered (listNumber s mode is) room (trianglesOf s mode is)) r out out′ → Draws (drawIn s element mode source room) r out out′
+  draw-by-list room is r out out′ e f d = draw-listed (listNumber s mode is) room is r out out′ (e ∙ ap (listNumber s mode) f) f d
+
+-- no index, no triangle
+none-read : (part : Part) (w : ℕ) → indicesIn part w 0 ≡ []
+unfolding numbers
+none-read (bytes bs) w = refl
+none-read noBuffer w = refl
+none-read unreadable w = refl
+
+none-drawn : (vertex : ℕ → Vertex) (p : Primitive) → trianglesTo vertex p (triangleCount p 0) ≡ []
+unfolding trianglesTo
+none-drawn vertex Primitive.Triangles = refl
+none-drawn vertex Primitive.Strip = refl
+none-drawn vertex Primitive.Fan = refl
+
+pub empty-draw : (s : Scene) (element mode count ty pointer : ℕ) (out : List Float) → validation s element mode (elements count ty pointer) ≡ 0 → count ≡ 0
+    → Draws (drawIn s element mode (elements count ty pointer) (length out)) (record { number = 0; count = 0 }) out out
+unfolding wordsOf
+empty-draw s element mode count ty pointer out e z =
+    draw-listed s element mode (elements count ty pointer) 0 (length out) [] (record { number = 0; count = 0 }) out out e
+    (ap (λ (n : ℕ). indicesIn (indexPart s element n ty pointer) (indexWidth ty) n) z ∙ none-read (indexPart s element 0 ty pointer) (indexWidth ty))
+    (rw (none-drawn (vertexAt s []) (primitiveOf mode)) (drawn [] out 0 out refl (omega arith) refl))

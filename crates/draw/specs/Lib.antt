@@ -1,6 +1,3 @@
-pub mod Scene
-pub mod Index
-pub mod Vertex
 pub mod Triangles
-pub mod Plan
+pub mod Corners
 pub mod Draw

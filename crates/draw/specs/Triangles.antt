@@ -4,8 +4,8 @@ use mathlib.Core.List.{List, [], _∷_, _++_}
 use Prim.Native.Nat.{ℕ, zero, suc, _+_, _-_, _*_, _/_, _%_}
 use lib.Dec.{eqb}
 use lib.Ieee.{Float}
-use Rattle.draw.specs.Vertex.{vertexWords}
-use Rattle.draw.specs.declared.Vertex.{Vertex}
+use Rattle.vertex.specs.Vertex.{vertexWords}
+use Rattle.vertex.specs.declared.Vertex.{Vertex}
 use Rattle.draw.specs.declared.Corners.{Corners}
 use Rattle.draw.specs.declared.Primitive.{Primitive}
 

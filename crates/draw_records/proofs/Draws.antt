@@ -6,7 +6,7 @@ use native.Mathlib.Omega.{arith}
 use lib.ListN.{length, take, drop}
 use lib.Seq.{length-take-le}
 use lib.Ieee.{Float}
-use Rattle.draw.specs.Scene.{Source, DrawCall}
+use Rattle.vertex.specs.Scene.{Source, DrawCall}
 use Rattle.context.specs.declared.Context.{Context}
 use Rattle.context.specs.declared.DrawReply.{DrawReply}
 use Rattle.context.specs.Contract.{drawCall}

@@ -3,7 +3,7 @@ use mathlib.Core.List.{List}
 use mathlib.Core.Path.{_≡_, subst}
 use Prim.Native.Nat.{ℕ}
 use lib.Ieee.{Float}
-use Rattle.draw.specs.Scene.{Source, DrawCall}
+use Rattle.vertex.specs.Scene.{Source, DrawCall}
 use Rattle.context.specs.declared.Context.{Context}
 use Rattle.context.specs.declared.DrawReply.{DrawReply}
 use Rattle.context.specs.Contract.{drawCall}

@@ -6,8 +6,8 @@ use Prim.Native.Nat.{ℕ, _+_, _-_, _*_, _<_, _≤_}
 use native.Mathlib.Omega.{arith}
 use borrow.Author.Tests.{le-leb, lt-leb, eq-eqb, ne-eqb}
 use lib.Dec.{leb}
-use Rattle.draw.specs.Index.{indexWidth}
-use Rattle.draw.proofs.Sources.{widths}
+use Rattle.vertex.specs.Index.{indexWidth}
+use Rattle.vertex.proofs.Sources.{widths}
 use Rattle.driver.specs.declared.Borrowed.{Borrowed}
 use Rattle.driver.specs.Permitted.{canBeRead}
 

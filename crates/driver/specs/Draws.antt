@@ -5,7 +5,7 @@ use lib.ListN.{drop}
 use Rattle.number.specs.Tables.{Row, _names_}
 use Rattle.words.specs.Words.{wordAt}
 use Rattle.records.specs.Encoding.{rowOr}
-use Rattle.draw.specs.Scene.{Source, list, range, elements, DrawCall}
+use Rattle.vertex.specs.Scene.{Source, list, range, elements, DrawCall}
 use Rattle.context.specs.Contract.{drawCall}
 
 -- the output length, held within the output that there is

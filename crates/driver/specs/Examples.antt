@@ -4,8 +4,8 @@ use mathlib.Core.List.{List, [], _∷_}
 use mathlib.Core.Path.{_≡_, refl}
 use Prim.Native.Nat.{ℕ}
 use Rattle.buffers.specs.Objects.{storeBytes}
-use Rattle.draw.specs.Scene.{list, range, elements}
-use Rattle.draw.specs.Index.{indexWidth}
+use Rattle.vertex.specs.Scene.{list, range, elements}
+use Rattle.vertex.specs.Index.{indexWidth}
 use Rattle.context.specs.Contract.{drawCall}
 use Rattle.text.specs.Text.{putHeld, overwrite}
 use Rattle.driver.specs.Settings.{borrowed, freshBorrowed, borrowedAfter, storeAfter, guestAfter}

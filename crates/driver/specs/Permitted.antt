@@ -6,7 +6,7 @@ use lib.Dec.{eqb, ltb, leb}
 use Rattle.number.specs.Tables.{Row, _names_}
 use Rattle.buffers.specs.Objects.{storeBytes, liveIn}
 use Rattle.buffers.specs.declared.Slot.{Slot}
-use Rattle.draw.specs.Index.{rangeCount, indexWidth}
+use Rattle.vertex.specs.Index.{rangeCount, indexWidth}
 use Rattle.context.specs.declared.Context.{Context}
 use Rattle.words.specs.Words.{wordAt}
 use Rattle.records.specs.Encoding.{rowOr}

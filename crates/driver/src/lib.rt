@@ -14,7 +14,7 @@ use trace::MAX_ENTRIES;
 use trace::STORE_AREA;
 ghost use mathlib.Core.Path.{_≡_};
 ghost use lib.ListN.{length};
-ghost use Rattle.draw.specs.Index.{rangeCount, indexWidth};
+ghost use Rattle.vertex.specs.Index.{rangeCount, indexWidth};
 ghost use Rattle.history.specs.Demand3.{DrawMade};
 ghost use Rattle.words.specs.Words.{wordAt};
 ghost use Rattle.records.specs.Perform.{Performs};

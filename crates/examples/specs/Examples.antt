@@ -16,7 +16,7 @@ use Rattle.fetch.specs.Decode.{componentBytes, vectorOf}
 use Rattle.fetch.specs.Fetch.{partOf, addressOf, fetched}
 use Rattle.fetch.specs.declared.ArrayPointer.{ArrayPointer}
 use Rattle.fetch.specs.declared.Fetched.{Fetched}
-use Rattle.draw.specs.Index.{upFrom, rangeCount}
+use Rattle.vertex.specs.Index.{upFrom, rangeCount}
 use Rattle.draw.specs.Triangles.{triangleCount, cornersOf}
 use Rattle.draw.specs.declared.Primitive.{Primitive}
 

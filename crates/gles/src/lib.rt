@@ -17,7 +17,7 @@ ghost use Rattle.buffers.specs.Objects.{genFirst};
 ghost use Rattle.arrays.specs.Arrays.{ArrayCall};
 ghost use Rattle.arrays.specs.Attributes.{AttributeCall};
 ghost use Rattle.pipeline.specs.Pipeline.{PipelineCall};
-ghost use Rattle.draw.specs.Scene.{Source};
+ghost use Rattle.vertex.specs.Scene.{Source};
 ghost use Rattle.context.specs.Calls.{Call, ObjectCall, BufferCall};
 ghost use Rattle.context.specs.Rules.{errorCode};
 ghost use Rattle.context.specs.Contract.{Did, Does, Drew, drawCall, drawnOf};

@@ -8,8 +8,8 @@ use lib.ListN.{length, take, drop}
 use lib.Seq.{take-append-seam}
 use lib.Ieee.{Float}
 use Rattle.buffers.specs.Objects.{storeBytes}
-use Rattle.draw.specs.Scene.{DrawState, DrawCall, Scene, sceneOf, Source, list, range, elements}
-use Rattle.draw.specs.Index.{indexTotal}
+use Rattle.vertex.specs.Scene.{DrawState, DrawCall, Scene, sceneOf, Source, list, range, elements}
+use Rattle.vertex.specs.Index.{indexTotal}
 use Rattle.draw.specs.Triangles.{triangleCount, Triangle, wordsOf}
 use Rattle.draw.specs.Draw.{primitiveOf, Drawing, drawOf, Draws}
 use Rattle.draw.specs.declared.Drawn.{Drawn}

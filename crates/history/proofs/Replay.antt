@@ -3,7 +3,7 @@ use mathlib.Core.Bool.{Bool, true, false, cond}
 use mathlib.Core.List.{List, [], _∷_, _++_}
 use mathlib.Core.Path.{_≡_, refl, _∙_}
 use Rattle.stack.specs.Stack.{MatrixCall, StackState, stackStep}
-use Rattle.draw.specs.Scene.{DrawCall}
+use Rattle.vertex.specs.Scene.{DrawCall}
 use Rattle.context.specs.declared.MatrixMode.{MatrixMode}
 use Rattle.context.specs.State.{State, freshState}
 use Rattle.context.specs.Calls.{Call, matrix, mode, object, attribute, pipeline, takeError, draw}

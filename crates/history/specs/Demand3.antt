@@ -19,8 +19,8 @@ use Rattle.arrays.specs.Arrays.{ArrayCall, vertexPointer, colorPointer, normalP
 use Rattle.arrays.specs.Attributes.{AttributeCall, color, multiTexcoord, attributeStep}
 use Rattle.arrays.specs.declared.Attributes.{Attributes}
 use Rattle.pipeline.specs.Pipeline.{PipelineCall, activeTexture, capability, texEnv, texEnvColor, depthFunc, depthRange, alphaFunc, blendFunc, cullFace, frontFace, fog}
-use Rattle.draw.specs.Scene.{Source, list, range, elements, DrawCall}
-use Rattle.draw.specs.Index.{indexTotal}
+use Rattle.vertex.specs.Scene.{Source, list, range, elements, DrawCall}
+use Rattle.vertex.specs.Index.{indexTotal}
 use Rattle.draw.specs.Draw.{Drawing, Draws}
 use Rattle.context.specs.declared.MatrixMode.{MatrixMode}
 use Rattle.context.specs.declared.Context.{Context}

@@ -11,7 +11,7 @@ use Rattle.number.specs.Tables.{Row, lookup}
 use Rattle.number.proofs.Tables.{NoneOf, misses}
 use Rattle.context.specs.declared.Context.{Context}
 use Rattle.context.specs.Calls.{Call}
-use Rattle.draw.specs.Scene.{Source}
+use Rattle.vertex.specs.Scene.{Source}
 use Rattle.context.specs.declared.DrawReply.{DrawReply}
 use lib.Ieee.{Float}
 use Rattle.records.specs.Encoding.{rowOr, drawOfWords}

@@ -13,7 +13,7 @@ use Rattle.stack.specs.Stack.{loadIdentity, load, mult, translate, scale, rotat
 use Rattle.arrays.specs.Arrays.{ArrayCall, vertexPointer, colorPointer, normalPointer, texcoordPointer, clientState, clientUnit}
 use Rattle.arrays.specs.Attributes.{AttributeCall, color, multiTexcoord}
 use Rattle.pipeline.specs.Pipeline.{PipelineCall, activeTexture, capability, texEnv, texEnvColor, depthFunc, depthRange, alphaFunc, blendFunc, cullFace, frontFace, fog}
-use Rattle.draw.specs.Scene.{Source, list, range, elements, DrawCall}
+use Rattle.vertex.specs.Scene.{Source, list, range, elements, DrawCall}
 use Rattle.context.specs.Calls.{BufferCall, gen, bind, delete, bufferData, bufferSubData, buffer, array, Call, matrix, mode, object, attribute, pipeline, takeError, draw}
 use Rattle.context.specs.Contract.{drawCall}
 

@@ -7,7 +7,7 @@ use Prim.Native.Nat.{ℕ}
 use lib.ListN.{take, drop}
 use lib.Ieee.{Float}
 use Rattle.buffers.specs.Objects.{genFirst}
-use Rattle.draw.specs.Scene.{DrawCall}
+use Rattle.vertex.specs.Scene.{DrawCall}
 use Rattle.context.specs.declared.Context.{Context}
 use Rattle.context.specs.declared.DrawReply.{DrawReply}
 use Rattle.context.specs.Calls.{BufferCall, gen, bind, delete, bufferData, bufferSubData, ObjectCall, buffer, array, Call, matrix, mode, object, attribute, pipeline, takeError, draw}

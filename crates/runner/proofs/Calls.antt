@@ -10,7 +10,7 @@ use lib.ListN.{length}
 use lib.Ieee.{Float}
 use Rattle.context.specs.declared.Context.{Context}
 use Rattle.context.specs.declared.DrawReply.{DrawReply}
-use Rattle.draw.specs.Scene.{DrawCall}
+use Rattle.vertex.specs.Scene.{DrawCall}
 use Rattle.stack.specs.Stack.{MatrixUpdate, update, push, pop}
 use Rattle.context.proofs.Parts.{changedIn, changes-part}
 use Rattle.context.specs.Contract.{putCurrents, putStacks, putError}

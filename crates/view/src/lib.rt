@@ -4,7 +4,7 @@ use context::DrawReply;
 ghost use mathlib.Core.Path.{_≡_};
 ghost use lib.ListN.{length};
 ghost use Rattle.fetch.specs.Fetch.{inGuest, isFound, bytesIn};
-ghost use Rattle.draw.specs.Scene.{Source};
+ghost use Rattle.vertex.specs.Scene.{Source};
 ghost use Rattle.context.specs.Calls.{Call};
 ghost use Rattle.context.specs.Contract.{Did, Drew, drawCall, drawnOf};
 

@@ -3,7 +3,7 @@ use context::Context;
 use context::DrawReply;
 use view::GuestView;
 ghost use lib.ListN.{length};
-ghost use Rattle.draw.specs.Scene.{Source};
+ghost use Rattle.vertex.specs.Scene.{Source};
 ghost use Rattle.context.specs.Calls.{Call};
 ghost use Rattle.context.specs.Contract.{Did, Drew, drawCall, drawnOf};
 

@@ -3,7 +3,7 @@ use Prim.Native.Nat.{ℕ}
 use mathlib.Core.Path.{ap, _∙_}
 use denote.Ref.{now}
 use lib.ListN.{getD}
-use Rattle.draw.specs.Index.{indexList}
+use Rattle.vertex.specs.Index.{indexList}
 use borrow.Author.Needs.{needs}
 use Rattle.draw.proofs.corner_index.Statement.{statement}
 use Rattle.draw.proofs.corner_index.Tie as tie

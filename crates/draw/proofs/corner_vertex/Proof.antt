@@ -3,10 +3,11 @@ use Prim.Native.Nat.{ℕ}
 use mathlib.Core.Path.{sym, ap, _∙_}
 use native.Mathlib.Omega.{arith}
 use denote.Ref.{now}
-use Rattle.draw.specs.Index.{indexList}
-use Rattle.draw.specs.Vertex.{vertexWords}
-use Rattle.draw.specs.Plan.{sources, vertexIn, cornerIndex}
-use Rattle.draw.specs.declared.Vertex.{Vertex}
+use Rattle.vertex.specs.Index.{indexList}
+use Rattle.vertex.specs.Vertex.{vertexWords}
+use Rattle.vertex.specs.Plan.{sources, vertexIn}
+use Rattle.vertex.specs.declared.Vertex.{Vertex}
+use Rattle.draw.specs.Corners.{cornerIndex}
 use Rattle.draw.proofs.CornerLists.{stands-read}
 use borrow.Author.Needs.{needs}
 use Rattle.draw.proofs.corner_vertex.Statement.{statement}

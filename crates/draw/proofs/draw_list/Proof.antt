@@ -1,6 +1,7 @@
 -- `draw::draw_list` meets its contract, by the laws on the view and on the list.
 use mathlib.Core.Path.{refl}
-use Rattle.draw.proofs.Sources.{view-refuses, view-passes, draw-refused, draw-listed}
+use Rattle.vertex.proofs.Sources.{view-refuses, view-passes}
+use Rattle.draw.proofs.Drawing.{draw-refused, draw-listed}
 use borrow.Author.Needs.{needs}
 use Rattle.draw.proofs.draw_list.Statement.{statement}
 use Rattle.draw.proofs.draw_list.Tie as tie

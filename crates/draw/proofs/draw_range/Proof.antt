@@ -1,8 +1,9 @@
 -- `draw::draw_range` meets its contract, by the laws on the view and on the list.
 use mathlib.Core.Path.{sym, ap}
 use Prim.Native.Nat.{ℕ, _-_}
-use Rattle.draw.specs.Index.{upFrom}
-use Rattle.draw.proofs.Sources.{view-refuses, view-passes, draw-refused, draw-by-list}
+use Rattle.vertex.specs.Index.{upFrom}
+use Rattle.vertex.proofs.Sources.{view-refuses, view-passes}
+use Rattle.draw.proofs.Drawing.{draw-refused, draw-by-list}
 use borrow.Author.Needs.{needs}
 use Rattle.draw.proofs.draw_range.Statement.{statement}
 use Rattle.draw.proofs.draw_range.Tie as tie

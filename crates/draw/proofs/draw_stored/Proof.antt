@@ -2,8 +2,9 @@
 use native.Mathlib.Omega.{arith}
 use mathlib.Core.Path.{sym, _∙_}
 use denote.Ref.{now}
-use Rattle.draw.specs.Scene.{sceneIn}
-use Rattle.draw.proofs.Sources.{view-refuses, view-passes, draw-refused, draw-by-list, product-fits, stored-refused, stored-none, stored-some, empty-draw, width-there, stored-indices}
+use Rattle.vertex.specs.Scene.{sceneIn}
+use Rattle.vertex.proofs.Sources.{view-refuses, view-passes, product-fits, stored-refused, stored-none, stored-some, width-there, stored-indices}
+use Rattle.draw.proofs.Drawing.{draw-refused, draw-by-list, empty-draw}
 use borrow.Author.Needs.{needs}
 use Rattle.draw.proofs.draw_stored.Statement.{statement}
 use Rattle.draw.proofs.draw_stored.Tie as tie

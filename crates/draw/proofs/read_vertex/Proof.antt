@@ -1,6 +1,6 @@
 -- `draw::read_vertex` meets its contract.
 use denote.Ref.{now}
-use Rattle.draw.specs.Vertex.{vertexWords}
+use Rattle.vertex.specs.Vertex.{vertexWords}
 use Rattle.draw.proofs.CornerLists.{words-read}
 use borrow.Author.Needs.{needs}
 use Rattle.draw.proofs.read_vertex.Statement.{statement}

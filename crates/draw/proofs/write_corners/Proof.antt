@@ -7,12 +7,13 @@ use borrow.Author.Needs.{needs}
 use denote.Ref.{now}
 use lib.ListN.{length}
 use lib.Seq.{sets, length-sets}
-use Rattle.draw.specs.Index.{indexList}
-use Rattle.draw.specs.Vertex.{vertexWords}
-use Rattle.draw.specs.Plan.{Sources, sources, vertexIn, cornerIndex, cornerWords}
-use Rattle.draw.specs.declared.Plan.{Plan}
+use Rattle.vertex.specs.Index.{indexList}
+use Rattle.vertex.specs.Vertex.{vertexWords}
+use Rattle.vertex.specs.Plan.{Sources, sources, vertexIn}
+use Rattle.vertex.specs.declared.Plan.{Plan}
+use Rattle.draw.specs.Corners.{cornerIndex, cornerWords}
 use Rattle.draw.specs.declared.Primitive.{Primitive}
-use Rattle.draw.specs.declared.Vertex.{Vertex}
+use Rattle.vertex.specs.declared.Vertex.{Vertex}
 use Rattle.draw.proofs.Laws.{sets-then}
 use Rattle.draw.proofs.CornerLists.{length-corners, corners-more, stands-stored}
 use Rattle.draw.proofs.write_corners.Statement.{statement}

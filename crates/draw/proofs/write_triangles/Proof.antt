@@ -8,10 +8,10 @@ use denote.Ref.{now}
 use lib.Seq.{sets}
 use Rattle.buffers.specs.Objects.{contentsOf}
 use Rattle.fetch.specs.Sources.{sourceBytes}
-use Rattle.draw.specs.Index.{indexList}
-use Rattle.draw.specs.Plan.{planOf}
-use Rattle.draw.specs.declared.Plan.{Plan}
-use Rattle.draw.proofs.Plans.{planned-words}
+use Rattle.vertex.specs.Index.{indexList}
+use Rattle.vertex.specs.Plan.{planOf}
+use Rattle.vertex.specs.declared.Plan.{Plan}
+use Rattle.draw.proofs.CornerLists.{planned-words}
 use borrow.Author.Needs.{needs}
 use Rattle.draw.proofs.write_triangles.Statement.{statement}
 use Rattle.draw.proofs.write_triangles.Tie as tie

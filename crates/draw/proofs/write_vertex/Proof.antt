@@ -1,7 +1,7 @@
 -- `draw::write_vertex` meets its contract.
 use mathlib.Core.List.{[], _∷_, _++_}
 use Rattle.draw.proofs.Laws.{sets-then}
-use Rattle.draw.specs.Vertex.{vertexWords, four, nextFour}
+use Rattle.vertex.specs.Vertex.{vertexWords, four, nextFour}
 use denote.Ref.{now}
 use Prim.Native.Nat.{_+_}
 use lib.Seq.{sets, length-sets}

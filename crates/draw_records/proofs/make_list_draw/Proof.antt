@@ -1,7 +1,7 @@
 -- `draw_records::make_list_draw` meets its contract.
 use mathlib.Core.Path.{refl, ap}
 use Rattle.draw_records.proofs.Draws.{room-fits, room-is, drew-in}
-use Rattle.draw.specs.Scene.{list}
+use Rattle.vertex.specs.Scene.{list}
 use Rattle.history.specs.Demand3.{by-draw-elements}
 use Rattle.history.proofs.References.{to, three}
 use borrow.Author.Needs.{needs}

@@ -1,7 +1,7 @@
 -- `draw_records::make_range_draw` meets its contract.
 use mathlib.Core.Path.{refl}
 use Rattle.draw_records.proofs.Draws.{room-fits, room-is, drew-in}
-use Rattle.draw.specs.Scene.{range}
+use Rattle.vertex.specs.Scene.{range}
 use Rattle.history.specs.Demand3.{by-draw-arrays}
 use Rattle.history.proofs.References.{to, two}
 use borrow.Author.Needs.{needs}

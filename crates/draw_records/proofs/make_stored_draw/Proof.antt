@@ -1,7 +1,7 @@
 -- `draw_records::make_stored_draw` meets its contract.
 use mathlib.Core.Path.{refl}
 use Rattle.draw_records.proofs.Draws.{room-fits, room-is, drew-in}
-use Rattle.draw.specs.Scene.{elements}
+use Rattle.vertex.specs.Scene.{elements}
 use Rattle.history.specs.Demand3.{by-draw-elements-from-guest}
 use Rattle.history.proofs.References.{to, two}
 use borrow.Author.Needs.{needs}

@@ -1,6 +1,6 @@
 -- `driver::draw_list` meets its contract: demand 3's `with-view` makes what the draw on a view ensures a `DrawMade`.
 use mathlib.Core.Path.{ap}
-use Rattle.draw.specs.Scene.{list}
+use Rattle.vertex.specs.Scene.{list}
 use Rattle.history.proofs.Demand3.{demand-3}
 use Rattle.driver.proofs.Drawing.{made-as}
 use borrow.Author.Needs.{needs}

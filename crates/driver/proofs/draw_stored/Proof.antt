@@ -1,5 +1,5 @@
 -- `driver::draw_stored` meets its contract: demand 3's `with-view` makes what the draw on a view ensures a `DrawMade`.
-use Rattle.draw.specs.Scene.{elements}
+use Rattle.vertex.specs.Scene.{elements}
 use Rattle.history.proofs.Demand3.{demand-3}
 use Rattle.driver.proofs.Drawing.{made-as}
 use borrow.Author.Needs.{needs}

@@ -1,5 +1,5 @@
 -- `driver::index_width` meets its contract: each return is the case that its test says.
-use Rattle.draw.specs.Index.{indexWidth}
+use Rattle.vertex.specs.Index.{indexWidth}
 use borrow.Author.Tests.{eq-eqb, ne-eqb}
 use Rattle.driver.proofs.index_width.Statement.{statement}
 use Rattle.driver.proofs.index_width.Tie as tie

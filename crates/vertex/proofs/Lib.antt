@@ -1,0 +1,5 @@
+pub mod IndexLists
+pub mod Search
+pub mod Questions
+pub mod Sources
+pub mod Plans

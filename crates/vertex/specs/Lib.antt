@@ -1,0 +1,5 @@
+pub mod Scene
+pub mod Index
+pub mod Vertex
+pub mod Questions
+pub mod Plan
