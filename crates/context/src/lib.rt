@@ -179,6 +179,19 @@ impl Currents {
     }
 }
 
+impl Stacks {
+    // The stacks with other current matrices.
+    pub fn with_currents(self, m: Currents) -> Stacks
+        ensures { λ r. ⌜ r ≡ putCurrents m self ⌝ }
+    {
+        let mut out = self;
+        stack::replace(&mut out.modelview.current.entries, m.modelview);
+        stack::replace(&mut out.projection.current.entries, m.projection);
+        stack::replace(&mut out.texture.current.entries, m.texture);
+        out
+    }
+}
+
 impl Context {
     // A fresh context.
     pub fn new() -> Context
@@ -262,21 +275,7 @@ impl Context {
         if !self.is_sound() {
             return self.refuse();
         }
-        let old = self.stacks;
-        let mut modelview = old.modelview;
-        let mut projection = old.projection;
-        let mut texture = old.texture;
-        let view = m.modelview;
-        let lens = m.projection;
-        let coordinates = m.texture;
-        modelview.current = view;
-        projection.current = lens;
-        texture.current = coordinates;
-        let stacks = Stacks {
-            modelview,
-            projection,
-            texture,
-        };
+        let stacks = self.stacks.with_currents(m);
         let error = slot_after(number, self.error);
         let mut out = self;
         out.stacks = stacks;

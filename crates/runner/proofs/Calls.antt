@@ -9,11 +9,13 @@ use borrow.Author.Tests.{lt-ltb, le-ltb, ne-eqb, eq-eqb}
 use lib.ListN.{length}
 use lib.Ieee.{Float}
 use Rattle.context.specs.declared.Context.{Context}
+use Rattle.context.specs.declared.Currents.{Currents}
+use Rattle.context.specs.declared.Stacks.{Stacks}
 use Rattle.context.specs.declared.DrawReply.{DrawReply}
 use Rattle.vertex.specs.Scene.{DrawCall}
 use Rattle.stack.specs.Stack.{MatrixUpdate, update, push, pop}
 use Rattle.context.proofs.Parts.{changedIn, changes-part}
-use Rattle.context.specs.Contract.{putCurrents, putStacks, putError}
+use Rattle.context.specs.Contract.{currentsOf, putCurrents, putStacks, putError}
 use Rattle.context.specs.Calls.{BufferCall, buffer, array, Call, matrix, mode, object, attribute, pipeline, takeError, draw}
 use Rattle.history.specs.Demand3.{Made}
 use Rattle.history.proofs.Demand3.{made-did}
@@ -120,12 +122,8 @@ module _ {k′ : Call} {c : Context} {out : List Float} where
 pub placed : {k : Call} {c c1 c2 : Context} {n : ℕ} {s s1 : List ℕ} → Made c s k n c1 s1 → c2 ≡ changedIn k c c1 → c2 ≡ c1
 placed m e = e ∙ changes-part (made-did m)
 
-abbrev currentsPut : Context → ℕ → List Float → List Float → List Float → Context
-currentsPut c error view lens coordinates =
-    putError error (putStacks (putCurrents (record { modelview = record { entries = view }; projection = record { entries = lens }; texture = record { entries = coordinates } }) (c .stacks)) c)
-
--- the same where it replaces the current matrices, one after the other
-pub currents-placed : {u : MatrixUpdate} {c c1 c2 : Context} {n : ℕ} {s s1 : List ℕ} {view lens coordinates : List Float} → Made c s (matrix (update u)) n c1 s1
-    → view ≡ c1 .stacks .modelview .current .entries → lens ≡ c1 .stacks .projection .current .entries → coordinates ≡ c1 .stacks .texture .current .entries
-    → c2 ≡ currentsPut c (c1 .error) view lens coordinates → c2 ≡ c1
-currents-placed {c = c} {c1 = c1} m p q r e = placed m (e ∙ (λ i. currentsPut c (c1 .error) (p i) (q i) (r i)))
+-- the same where it puts back the current matrices
+pub currents-placed : {u : MatrixUpdate} {c c1 c2 : Context} {n : ℕ} {s s1 : List ℕ} {m : Currents} {t : Stacks} → Made c s (matrix (update u)) n c1 s1
+    → m ≡ currentsOf (c1 .stacks) → t ≡ putCurrents m (c .stacks) → c2 ≡ putError (c1 .error) (putStacks t c) → c2 ≡ c1
+currents-placed {c = c} {c1 = c1} d p q e =
+    placed d (e ∙ ap (λ (x : Stacks). putError (c1 .error) (putStacks x c)) (q ∙ ap (λ (x : Currents). putCurrents x (c .stacks)) p))

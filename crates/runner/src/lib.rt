@@ -140,12 +140,9 @@ pub fn run_on(
             c = r.context;
         } else if code < 0x20 {
             let r = records::make_update(c, code, words::matrix_floats(w));
-            let view = r.context.stacks.modelview.current.entries;
-            let lens = r.context.stacks.projection.current.entries;
-            let coordinates = r.context.stacks.texture.current.entries;
-            matrix::replace(&mut c.stacks.modelview.current.entries, view);
-            matrix::replace(&mut c.stacks.projection.current.entries, lens);
-            matrix::replace(&mut c.stacks.texture.current.entries, coordinates);
+            let m = r.context.currents();
+            let part = c.stacks.with_currents(m);
+            c.stacks = part;
             c.error = r.context.error;
         } else if code < 0x30 {
             let r = buffer_records::make_buffer(c, &mut store[..], code, w, bytes);

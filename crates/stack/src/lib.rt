@@ -8,6 +8,32 @@ pub struct Matrix {
     pub entries: [f32; 16],
 }
 
+// Puts a matrix in the place of another. Entry by entry, so that the compiler leaves what lies around the place alone: it copies two neighbours together
+// unless one of them is read or written by its numbers.
+pub fn replace(to: &mut [f32; 16], from: Matrix)
+    ensures { λ r. ⌜ now (to .exit) ≡ from .entries ⌝ }
+{
+    let e = from.entries;
+    *to = [
+        e[0],
+        e[1],
+        e[2],
+        e[3],
+        e[4],
+        e[5],
+        e[6],
+        e[7],
+        e[8],
+        e[9],
+        e[10],
+        e[11],
+        e[12],
+        e[13],
+        e[14],
+        e[15],
+    ];
+}
+
 // How many matrices a stack saves.
 pub const SAVED_LIMIT: usize = 15;
 

@@ -70,7 +70,7 @@ loop-again c =
     (⊎-elim (λ z. joined (stayed (changes (is-push bytes _ _ _ (z .0 .taken)) (by-push-matrix (z .1 .ensures)) refl)) (z .3) (z .4) (z .5))
     (⊎-elim (λ z. joined (stayed (changes (is-pop bytes _ _ _ (z .1 .taken)) (by-pop-matrix (z .2 .ensures)) refl)) (z .4) (z .5) (z .6))
     (⊎-elim (λ z. joined (stayed (changes (ap mode (z .3 .ensures) ∙ is-mode bytes _ _ _ (z .2 .taken)) (by-set-matrix-mode (z .4 .ensures)) refl)) (z .6) (z .7) (z .8))
-    (⊎-elim (λ z. let m = z .5 .ensures _ in joined (stayed (changes (ap (λ (f : List Float). matrix (update (updateOf (code .result) f))) (z .4 .ensures) ∙ is-update bytes _ _ _ (z .0 .left) (z .1 .left) (z .2 .left) (z .3 .taken)) m refl)) (z .15) (z .16) (currents-placed m (z .10 .ensures) (z .12 .ensures) (z .14 .ensures) (z .17)))
+    (⊎-elim (λ z. let m = z .5 .ensures _ in joined (stayed (changes (ap (λ (f : List Float). matrix (update (updateOf (code .result) f))) (z .4 .ensures) ∙ is-update bytes _ _ _ (z .0 .left) (z .1 .left) (z .2 .left) (z .3 .taken)) m refl)) (z .8) (z .9) (currents-placed m (z .6 .ensures) (z .7 .ensures) (z .10)))
     (⊎-elim (λ z. let m = z .6 .ensures .0 .1 in joined (changes (is-buffer bytes _ _ _ (z .3 .left) (z .4 .taken)) m refl, z .6 .kept .1 .0, refl) (z .10) (z .11) (placed m (z .12)))
     (⊎-elim (λ z. let m = z .6 .ensures _ in joined (stayed (changes (is-array bytes _ _ _ (z .4 .left) (z .5 .taken)) m refl)) (z .8) (z .9) (placed m (z .10)))
     (⊎-elim (λ z. let m = z .7 .ensures _ in joined (stayed (changes (is-attribute bytes _ _ _ (z .4 .left) (z .5 .left) (z .6 .taken)) m refl)) (z .9) (z .10) (placed m (z .11)))
@@ -111,7 +111,6 @@ run-on-spec =
     sub-w
     part-w-start
     part-w-end
-    (λ c κs. search needs)
     (λ c κs. search needs)
     (λ c κs. search needs)
     (λ c κs. search needs)

@@ -9,7 +9,7 @@ returns : tie.Need-returns
 returns c = rw (c .refuse .ensures) (settled-unsound (c .before .before .is-sound .ensures .no (not-true _ (c .before .if1 .taken))))
 
 returns-2 : tie.Need-returns-2
-returns-2 c = settled (c .before .before .before .before .before .before .before .before .before .is-sound .ensures .yes (not-false _ (c .before .before .before .before .before .before .before .before .if1 .left))) (rw (c .slot-after .ensures))
+returns-2 c = settled (c .before .before .before .is-sound .ensures .yes (not-false _ (c .before .before .if1 .left))) (rw (c .before .with-currents .ensures, c .slot-after .ensures))
 
 pub answer-currents-spec : {M : Type 1} → statement M
 answer-currents-spec =
@@ -18,5 +18,6 @@ answer-currents-spec =
     (λ c κs. search needs)
     (λ c κs. search needs)
     returns
+    (λ c κs. search needs)
     (λ c κs. search needs)
     returns-2)

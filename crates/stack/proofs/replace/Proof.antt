@@ -1,4 +1,4 @@
--- `matrix::replace` meets its contract: a list is that of its elements.
+-- `stack::replace` meets its contract: a list is that of its elements.
 use mathlib.Core.List.{List, [], _∷_}
 use mathlib.Core.Path.{_≡_, sym, ap, _∙_}
 use Prim.Native.Nat.{ℕ, zero, suc, _+_}
@@ -7,9 +7,9 @@ use borrow.Author.Needs.{needs}
 use lib.Ieee.{Float}
 use lib.ListN.{length, drop, drop-of-length-le}
 use lib.Seq.{drop-cons}
 use Rattle.matrix.specs.Matrix.{at}
-use Rattle.matrix.proofs.replace.Statement.{statement}
-use Rattle.matrix.proofs.replace.Tie as tie
+use Rattle.stack.proofs.replace.Statement.{statement}
+use Rattle.stack.proofs.replace.Tie as tie
 
 -- n elements from place k on
 abbrev elements : List Float → ℕ → ℕ → List Float
@@ -21,7 +21,7 @@ to-the-end l zero k h = sym (drop-of-length-le l {i = k} (omega arith))
 to-the-end l (suc n) k h = ap (λ (r : List Float). at l k ∷ r) (to-the-end l n (suc k) (omega arith)) ∙ sym (drop-cons l k _ (omega arith))
 
 returns : tie.Need-returns
-returns c = to-the-end (c .before .args .t2) 16 0 (search needs)
+returns c = to-the-end (c .before .before .args .from .entries) 16 0 (search needs)
 
 pub replace-spec : {M : Type 1} → statement M
 replace-spec =
