@@ -5,7 +5,7 @@ use records::CallReply;
 ghost use mathlib.Core.Bool.{true};
 ghost use mathlib.Core.Path.{_≡_};
 ghost use Rattle.context.specs.Calls.{Call, ObjectCall, BufferCall};
-ghost use Rattle.history.specs.Demand3.{Made};
+ghost use Rattle.context.specs.Contract.{Did};
 ghost use Rattle.records.specs.Encoding.{dataOf, subDataOf, bufferOf};
 ghost use Rattle.records.specs.Perform.{bufferValue, Gives};
 
@@ -25,7 +25,7 @@ fn make_gen(c: Context, n: usize) -> CallReply
 }
 
 fn make_data(c: Context, store: &mut [u8], w: &[u32], bytes: &[u8]) -> Reply
-    ensures { λ r. ⌜ Made c (now (store .entry)) (Call.object (ObjectCall.buffer (dataOf (now (bytes .entry)) (now (w .entry))))) (r .number) (r .context) (now (store .exit)) ⌝ }
+    ensures { λ r. ⌜ Did (Call.object (ObjectCall.buffer (dataOf (now (bytes .entry)) (now (w .entry))))) c (now (store .entry)) (r .number) (r .context) (now (store .exit)) ⌝ }
 {
     let target = words::word_at(w, 0);
     let size = words::long_at(w, 1);
@@ -35,7 +35,7 @@ fn make_data(c: Context, store: &mut [u8], w: &[u32], bytes: &[u8]) -> Reply
 }
 
 fn make_sub_data(c: Context, store: &mut [u8], w: &[u32], bytes: &[u8]) -> Reply
-    ensures { λ r. ⌜ Made c (now (store .entry)) (Call.object (ObjectCall.buffer (subDataOf (now (bytes .entry)) (now (w .entry))))) (r .number) (r .context) (now (store .exit)) ⌝ }
+    ensures { λ r. ⌜ Did (Call.object (ObjectCall.buffer (subDataOf (now (bytes .entry)) (now (w .entry))))) c (now (store .entry)) (r .number) (r .context) (now (store .exit)) ⌝ }
 {
     let target = words::word_at(w, 0);
     let offset = words::word_at(w, 1);
@@ -44,7 +44,7 @@ fn make_sub_data(c: Context, store: &mut [u8], w: &[u32], bytes: &[u8]) -> Reply
 }
 
 pub fn make_buffer(c: Context, store: &mut [u8], code: u32, w: &[u32], bytes: &[u8]) -> CallReply
-    ensures { λ r. ⌜ (r .known ≡ true) × Made c (now (store .entry)) (Call.object (ObjectCall.buffer (bufferOf (now (bytes .entry)) code (now (w .entry))))) (r .number) (r .context) (now (store .exit)) ⌝ }
+    ensures { λ r. ⌜ (r .known ≡ true) × Did (Call.object (ObjectCall.buffer (bufferOf (now (bytes .entry)) code (now (w .entry))))) c (now (store .entry)) (r .number) (r .context) (now (store .exit)) ⌝ }
     ensures { λ r. ⌜ r .value ≡ bufferValue (bufferOf (now (bytes .entry)) code (now (w .entry))) c (r .number) ⌝ }
 {
     match code {

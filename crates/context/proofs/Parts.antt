@@ -99,7 +99,7 @@ sound-decided c =
     decided-by (λ x. record { stacks = x .0; buffers = x .1 .0; client-unit = x .1 .1 .0; active-unit = x .1 .1 .1 }) (λ s. (s .stacks, (s .buffers, (s .client-unit, s .active-unit))))
     (both (stacks-decided (c .stacks)) (both (buffers-decided (c .buffers)) (both (below _ unitCount) (below _ unitCount))))
 
-valid-decided : (k : Call) (c : Context) (s : List ℕ) → Decided (Valid k c s)
+pub valid-decided : (k : Call) (c : Context) (s : List ℕ) → Decided (Valid k c s)
 valid-decided k c s =
     decided-by (λ x. record { sound = x .0; store = x .1 }) (λ v. (v .sound, v .store))
     (both (sound-decided c) (implied (is-true (borrowsStore k)) (same? (length s) storeBytes)))

@@ -2,4 +2,5 @@ pub mod State
 pub mod Calls
 pub mod Rules
 pub mod Contract
+pub mod Settles
 pub mod Examples

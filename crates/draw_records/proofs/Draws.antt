@@ -10,7 +10,7 @@ use Rattle.vertex.specs.Scene.{Source, DrawCall}
 use Rattle.context.specs.declared.Context.{Context}
 use Rattle.context.specs.declared.DrawReply.{DrawReply}
 use Rattle.context.specs.Contract.{drawCall}
-use Rattle.history.specs.Demand3.{DrawMade}
+use Rattle.history.specs.Demand3.{DrawDid}
 use Rattle.draw_records.specs.declared.DrawWords.{DrawWords}
 use Rattle.words.specs.Words.{wordAt, longAt, bytesAt}
 use Rattle.records.specs.Encoding.{drawOfWords}
@@ -26,12 +26,13 @@ module _ (w : List ℕ) (out : List Float) (d : DrawWords) (e : d ≡ drawWords 
   room-is = sym (length-take-le (d .room) out room-fits)
 
   pub drew-in : (bytes guest : List ℕ) → guest ≡ bytesAt bytes (longAt w 5) (longAt w 7) → (source source′ : Source) → source ≡ source′ → {c : Context} {s : List ℕ} {r : DrawReply} {part : List Float}
-      → DrawMade c s (drawCall source (d .mode) (d .stages) (d .base) guest (length (take (d .room) out))) (take (d .room) out) r part
+      → DrawDid (drawCall source (d .mode) (d .stages) (d .base) guest (length (take (d .room) out))) c s r (take (d .room) out) part
       → DrewIn (drawOfWords bytes (length out) source′ w) c s out r (part ++ drop (d .room) out)
   drew-in bytes guest g source source′ q {c = c} {s = s} {r = r} {part = part} m =
       subst (λ (x : DrawWords). DrewIn (drawCall source′ (x .mode) (x .stages) (x .base) (bytesAt bytes (longAt w 5) (longAt w 7)) (x .room)) c s out r (part ++ drop (d .room) out)) e
       (record {
         part = part;
-        made = subst (λ (k : DrawCall). DrawMade c s k (take (d .room) out) r part) (λ i. drawCall (q i) (d .mode) (d .stages) (d .base) (g i) (sym room-is i)) m;
+        did = subst (λ (k : DrawCall). DrawDid k c s r (take (d .room) out) part) (λ i. drawCall (q i) (d .mode) (d .stages) (d .base) (g i) (sym room-is i)) m;
+        room = room-fits;
         output = refl;
       })

@@ -15,7 +15,7 @@ use trace::STORE_AREA;
 ghost use mathlib.Core.Path.{_≡_};
 ghost use lib.ListN.{length};
 ghost use Rattle.vertex.specs.Index.{rangeCount, indexWidth};
-ghost use Rattle.history.specs.Demand3.{DrawMade};
+ghost use Rattle.history.specs.Demand3.{DrawDid};
 ghost use Rattle.words.specs.Words.{wordAt};
 ghost use Rattle.records.specs.Perform.{Performs};
 ghost use Rattle.trace.specs.Decoded.{decoded};
@@ -326,7 +326,7 @@ fn draw_list<'a>(
     guest: &'a [u8],
     out: &mut [f32],
 ) -> DrawReply
-    ensures { λ r. ⌜ DrawMade c (now (store .entry)) (drawFrom (listOf (now (w .entry))) (now (w .entry)) base (now (guest .entry)) (length (now (out .entry)))) (now (out .entry)) r (now (out .exit)) ⌝ }
+    ensures { λ r. ⌜ DrawDid (drawFrom (listOf (now (w .entry))) (now (w .entry)) base (now (guest .entry)) (length (now (out .entry)))) c (now (store .entry)) r (now (out .entry)) (now (out .exit)) ⌝ }
 {
     let mode = words::word_at(w, 0);
     let stages = words::word_at(w, 1);
@@ -342,7 +342,7 @@ fn draw_range<'a>(
     guest: &'a [u8],
     out: &mut [f32],
 ) -> DrawReply
-    ensures { λ r. ⌜ DrawMade c (now (store .entry)) (drawFrom (rangeOf (now (w .entry))) (now (w .entry)) base (now (guest .entry)) (length (now (out .entry)))) (now (out .entry)) r (now (out .exit)) ⌝ }
+    ensures { λ r. ⌜ DrawDid (drawFrom (rangeOf (now (w .entry))) (now (w .entry)) base (now (guest .entry)) (length (now (out .entry)))) c (now (store .entry)) r (now (out .entry)) (now (out .exit)) ⌝ }
 {
     let mode = words::word_at(w, 0);
     let stages = words::word_at(w, 1);
@@ -359,7 +359,7 @@ fn draw_stored<'a>(
     guest: &'a [u8],
     out: &mut [f32],
 ) -> DrawReply
-    ensures { λ r. ⌜ DrawMade c (now (store .entry)) (drawFrom (elementsOf (now (w .entry))) (now (w .entry)) base (now (guest .entry)) (length (now (out .entry)))) (now (out .entry)) r (now (out .exit)) ⌝ }
+    ensures { λ r. ⌜ DrawDid (drawFrom (elementsOf (now (w .entry))) (now (w .entry)) base (now (guest .entry)) (length (now (out .entry)))) c (now (store .entry)) r (now (out .entry)) (now (out .exit)) ⌝ }
 {
     let mode = words::word_at(w, 0);
     let stages = words::word_at(w, 1);
@@ -390,7 +390,7 @@ pub fn draw<'a>(
     guest: &'a [u8],
     out: &mut [f32],
 ) -> DrawReply
-    ensures { λ r. ⌜ DrawMade c (now (store .entry)) (drawOf code (now (w .entry)) base (now (guest .entry)) (length (now (out .entry)))) (now (out .entry)) r (now (out .exit)) ⌝ }
+    ensures { λ r. ⌜ DrawDid (drawOf code (now (w .entry)) base (now (guest .entry)) (length (now (out .entry)))) c (now (store .entry)) r (now (out .entry)) (now (out .exit)) ⌝ }
 {
     match code {
         0x60 => draw_list(c, w, store, base, guest, out),

@@ -1,3 +1,2 @@
 pub mod Replay
 pub mod Demand3
-pub mod References

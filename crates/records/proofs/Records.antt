@@ -15,14 +15,15 @@ use Rattle.vertex.specs.Scene.{Source}
 use Rattle.context.specs.declared.DrawReply.{DrawReply}
 use lib.Ieee.{Float}
 use Rattle.records.specs.Encoding.{rowOr, drawOfWords}
-use Rattle.records.specs.Perform.{Makes, DrewIn}
+use Rattle.context.specs.Contract.{Does}
+use Rattle.records.specs.Perform.{DrewIn}
 
 -- no row has the code: the last code of the group is meant
 pub last-row : {A : Type 0} (rows : List (Row A)) (n : ℕ) (d : A) → NoneOf (Unit {0}) rows n → d ≡ rowOr rows n d
 last-row rows n d h = sym (ap (λ o. Option·getD o d) (misses rows n h))
 
-pub makes-is : {k k′ : Call} {c c1 : Context} {n : ℕ} → k ≡ k′ → Makes k c n c1 → Makes k′ c n c1
-makes-is {c = c} {c1 = c1} {n = n} e m = subst (λ (j : Call). Makes j c n c1) e m
+pub does-is : {k k′ : Call} {c c1 : Context} {n : ℕ} → k ≡ k′ → Does k c n c1 → Does k′ c n c1
+does-is {c = c} {c1 = c1} {n = n} e d = subst (λ (j : Call). Does j c n c1) e d
 
 pub drew-is : (bytes w : List ℕ) (room : ℕ) {source source′ : Source} {c : Context} {s : List ℕ} {out out1 : List Float} {r : DrawReply} → source ≡ source′
     → DrewIn (drawOfWords bytes room source w) c s out r out1 → DrewIn (drawOfWords bytes room source′ w) c s out r out1

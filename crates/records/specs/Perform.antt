@@ -3,8 +3,8 @@ use mathlib.Core.Bool.{Bool, true, false}
 use mathlib.Core.List.{List, _++_}
 use mathlib.Core.Option.{Option, some, none}
 use mathlib.Core.Path.{_≡_}
-use Prim.Native.Nat.{ℕ}
-use lib.ListN.{take, drop}
+use Prim.Native.Nat.{ℕ, _≤_}
+use lib.ListN.{length, take, drop}
 use lib.Ieee.{Float}
 use Rattle.buffers.specs.Objects.{genFirst}
 use Rattle.vertex.specs.Scene.{DrawCall}
@@ -12,15 +12,11 @@ use Rattle.context.specs.declared.Context.{Context}
 use Rattle.context.specs.declared.DrawReply.{DrawReply}
 use Rattle.context.specs.Calls.{BufferCall, gen, bind, delete, bufferData, bufferSubData, ObjectCall, buffer, array, Call, matrix, mode, object, attribute, pipeline, takeError, draw}
 use Rattle.context.specs.Rules.{errorCode}
-use Rattle.context.specs.Contract.{drawReply}
-use Rattle.history.specs.Demand3.{Made, DrawMade}
+use Rattle.context.specs.Contract.{Did, Does, drawReply}
+use Rattle.history.specs.Demand3.{DrawDid}
 use Rattle.records.specs.declared.CallReply.{CallReply}
 
 -- ---- one call
-
--- a call that does not borrow the store: made over every store
-abbrev pub Makes : Call → Context → ℕ → Context → Type 0
-Makes k c n c1 = (s : List ℕ) → Made c s k n c1 s
 
 abbrev pub isDraw : Call → Bool
 isDraw (matrix k) = false
@@ -51,21 +47,22 @@ valueOf (draw d) c number = 0
 
 -- for the code: a call that borrows neither store nor output, with its value
 pub record Gives (k : Call) (c : Context) (n value : ℕ) (c1 : Context) : Type 0 where
-  pub makes : Makes k c n c1
+  pub does : Does k c n c1
   pub value-is : value ≡ valueOf k c n
 
 -- a draw, with the first f32 of the output
 pub record DrewIn (d : DrawCall) (c : Context) (s : List ℕ) (out : List Float) (r : DrawReply) (out1 : List Float) : Type 0 where
   pub part : List Float
-  pub made : DrawMade c s d (take (d .room) out) r part
+  pub did : DrawDid d c s r (take (d .room) out) part
+  pub room : d .room ≤ length out
   pub output : out1 ≡ part ++ drop (d .room) out
 
 abbrev pub replyOf : ℕ → ℕ → Context → CallReply
 replyOf n value c = record { known = true; number = n; value = value; context = c }
 
--- A call was made by its function. A draw has the first f32 of the output, as many as it asks for, and its value is the count; any other call leaves the output.
+-- A call was made. A draw has the first f32 of the output, as many as it asks for, and its value is the count; any other call leaves the output.
 pub data Performed (c : Context) (s : List ℕ) (out : List Float) (n value : ℕ) (c1 : Context) (s1 : List ℕ) (out1 : List Float) : Call → Type 0 where
-  called : {k : Call} → Made c s k n c1 s1 → isDraw k ≡ false → value ≡ valueOf k c n → out1 ≡ out → Performed c s out n value c1 s1 out1 k
+  called : {k : Call} → Did k c s n c1 s1 → isDraw k ≡ false → value ≡ valueOf k c n → out1 ≡ out → Performed c s out n value c1 s1 out1 k
   drew : {d : DrawCall} → DrewIn d c s out (drawReply n value c1) out1 → s1 ≡ s → Performed c s out n value c1 s1 out1 (draw d)
 
 -- words that are no record's change nothing

@@ -5,9 +5,10 @@ ghost use mathlib.Core.Bool.{true};
 ghost use mathlib.Core.Path.{_≡_};
 ghost use Rattle.stack.specs.Stack.{MatrixCall};
 ghost use Rattle.context.specs.Calls.{Call, ObjectCall};
+ghost use Rattle.context.specs.Contract.{Does};
 ghost use Rattle.words.specs.Words.{wordAt, fourFloats};
 ghost use Rattle.records.specs.Encoding.{updateOf, matrixOf, arrayOf, attributeOf, pipelineOf, isRecord};
-ghost use Rattle.records.specs.Perform.{Makes, Gives, replyOf};
+ghost use Rattle.records.specs.Perform.{Gives, replyOf};
 
 // What a call answers: besides its number the first name of gen_buffers, the code of take_error or the count of a draw. `known` is false where the words were no record's.
 pub struct CallReply {
@@ -21,7 +22,7 @@ pub struct CallReply {
 
 // The calls that update a matrix, apart from push and pop, for which a stack is copied.
 pub fn make_update(c: Context, code: u32, f: [f32; 16]) -> Reply
-    ensures { λ r. ⌜ Makes (Call.matrix (MatrixCall.update (updateOf code f))) c (r .number) (r .context) ⌝ }
+    ensures { λ r. ⌜ Does (Call.matrix (MatrixCall.update (updateOf code f))) c (r .number) (r .context) ⌝ }
 {
     match code {
         0x11 => gles::load_identity(c),
@@ -36,7 +37,7 @@ pub fn make_update(c: Context, code: u32, f: [f32; 16]) -> Reply
 }
 
 pub fn make_matrix(c: Context, code: u32, f: [f32; 16]) -> Reply
-    ensures { λ r. ⌜ Makes (Call.matrix (matrixOf code f)) c (r .number) (r .context) ⌝ }
+    ensures { λ r. ⌜ Does (Call.matrix (matrixOf code f)) c (r .number) (r .context) ⌝ }
 {
     match code {
         0x14 => gles::push_matrix(c),
@@ -46,7 +47,7 @@ pub fn make_matrix(c: Context, code: u32, f: [f32; 16]) -> Reply
 }
 
 fn make_array(c: Context, code: u32, a: u32, b: u32, d: u32, e: u32) -> Reply
-    ensures { λ r. ⌜ Makes (Call.object (ObjectCall.array (arrayOf code a b d e))) c (r .number) (r .context) ⌝ }
+    ensures { λ r. ⌜ Does (Call.object (ObjectCall.array (arrayOf code a b d e))) c (r .number) (r .context) ⌝ }
 {
     match code {
         0x30 => gles::set_vertex_pointer(c, a, b, d, e),
@@ -59,7 +60,7 @@ fn make_array(c: Context, code: u32, a: u32, b: u32, d: u32, e: u32) -> Reply
 }
 
 fn make_attribute(c: Context, code: u32, a: u32, f: [f32; 4]) -> Reply
-    ensures { λ r. ⌜ Makes (Call.attribute (attributeOf code a f)) c (r .number) (r .context) ⌝ }
+    ensures { λ r. ⌜ Does (Call.attribute (attributeOf code a f)) c (r .number) (r .context) ⌝ }
 {
     match code {
         0x36 => gles::set_color(c, f),
@@ -68,7 +69,7 @@ fn make_attribute(c: Context, code: u32, a: u32, f: [f32; 4]) -> Reply
 }
 
 fn make_pipeline(c: Context, code: u32, a: u32, b: u32, f: [f32; 4]) -> Reply
-    ensures { λ r. ⌜ Makes (Call.pipeline (pipelineOf code a b f)) c (r .number) (r .context) ⌝ }
+    ensures { λ r. ⌜ Does (Call.pipeline (pipelineOf code a b f)) c (r .number) (r .context) ⌝ }
 {
     match code {
         0x40 => gles::set_active_texture(c, a),
@@ -88,7 +89,7 @@ fn make_pipeline(c: Context, code: u32, a: u32, b: u32, f: [f32; 4]) -> Reply
 // ---- the same, from the words of a record
 
 pub fn array_record(c: Context, code: u32, w: &[u32]) -> Reply
-    ensures { λ r. ⌜ Makes (Call.object (ObjectCall.array (arrayOf code (wordAt (now (w .entry)) 0) (wordAt (now (w .entry)) 1) (wordAt (now (w .entry)) 2) (wordAt (now (w .entry)) 3)))) c (r .number) (r .context) ⌝ }
+    ensures { λ r. ⌜ Does (Call.object (ObjectCall.array (arrayOf code (wordAt (now (w .entry)) 0) (wordAt (now (w .entry)) 1) (wordAt (now (w .entry)) 2) (wordAt (now (w .entry)) 3)))) c (r .number) (r .context) ⌝ }
 {
     let a = words::word_at(w, 0);
     let b = words::word_at(w, 1);
@@ -98,13 +99,13 @@ pub fn array_record(c: Context, code: u32, w: &[u32]) -> Reply
 }
 
 pub fn attribute_record(c: Context, code: u32, w: &[u32]) -> Reply
-    ensures { λ r. ⌜ Makes (Call.attribute (attributeOf code (wordAt (now (w .entry)) 0) (fourFloats (now (w .entry))))) c (r .number) (r .context) ⌝ }
+    ensures { λ r. ⌜ Does (Call.attribute (attributeOf code (wordAt (now (w .entry)) 0) (fourFloats (now (w .entry))))) c (r .number) (r .context) ⌝ }
 {
     make_attribute(c, code, words::word_at(w, 0), words::four_floats(w))
 }
 
 pub fn pipeline_record(c: Context, code: u32, w: &[u32]) -> Reply
-    ensures { λ r. ⌜ Makes (Call.pipeline (pipelineOf code (wordAt (now (w .entry)) 0) (wordAt (now (w .entry)) 1) (fourFloats (now (w .entry))))) c (r .number) (r .context) ⌝ }
+    ensures { λ r. ⌜ Does (Call.pipeline (pipelineOf code (wordAt (now (w .entry)) 0) (wordAt (now (w .entry)) 1) (fourFloats (now (w .entry))))) c (r .number) (r .context) ⌝ }
 {
     let a = words::word_at(w, 0);
     let b = words::word_at(w, 1);

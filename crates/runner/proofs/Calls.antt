@@ -15,14 +15,12 @@ use Rattle.context.specs.declared.DrawReply.{DrawReply}
 use Rattle.vertex.specs.Scene.{DrawCall}
 use Rattle.stack.specs.Stack.{MatrixUpdate, update, push, pop}
 use Rattle.context.proofs.Parts.{changedIn, changes-part}
-use Rattle.context.specs.Contract.{currentsOf, putCurrents, putStacks, putError}
+use Rattle.context.specs.Contract.{currentsOf, putCurrents, putStacks, putError, Did, Does}
 use Rattle.context.specs.Calls.{BufferCall, buffer, array, Call, matrix, mode, object, attribute, pipeline, takeError, draw}
-use Rattle.history.specs.Demand3.{Made}
-use Rattle.history.proofs.Demand3.{made-did}
 use Rattle.records.specs.declared.CallReply.{CallReply}
 use Rattle.words.specs.Words.{wordAt, fourFloats, matrixFloats}
 use Rattle.records.specs.Encoding.{updateOf, matrixOf, bufferOf, arrayOf, attributeOf, pipelineOf, sourceOf, drawOfWords, callOf, isRecord, recordCall}
-use Rattle.records.specs.Perform.{Makes, isDraw, valueOf, Gives, DrewIn, replyOf, called, drew, Performs, was-made, was-unknown}
+use Rattle.records.specs.Perform.{isDraw, valueOf, Gives, DrewIn, replyOf, called, drew, Performs, was-made, was-unknown}
 use Rattle.buffer_records.proofs.Answers.{Answers}
 use Rattle.runner.specs.Run.{Changes}
 
@@ -85,11 +83,11 @@ performs-is {c = c} {s = s} {s1 = s1} {out = out} {out1 = out1} {r = r} e p = su
 
 module _ {k′ : Call} {c : Context} {out : List Float} {r : CallReply} where
   -- it has no value, and borrows neither store nor output
-  pub performs : {k : Call} {n : ℕ} {c1 : Context} {s : List ℕ} → k ≡ k′ → r ≡ replyOf n 0 c1 → Makes k c n c1 → isDraw k ≡ false → 0 ≡ valueOf k c n → Performs c s out r s out (some k′)
+  pub performs : {k : Call} {n : ℕ} {c1 : Context} {s : List ℕ} → k ≡ k′ → r ≡ replyOf n 0 c1 → Does k c n c1 → isDraw k ≡ false → 0 ≡ valueOf k c n → Performs c s out r s out (some k′)
   performs {k = k} {s = s} e q m f v = performs-is e (subst (λ (x : CallReply). Performs c s out x s out (some k)) (sym q) (was-made refl (called (m s) f v refl)))
 
   pub performs-value : {k : Call} {s : List ℕ} → k ≡ k′ → (r .known ≡ true) × Gives k c (r .number) (r .value) (r .context) → isDraw k ≡ false → Performs c s out r s out (some k′)
-  performs-value {s = s} e g f = performs-is e (was-made (g .0) (called (g .1 .makes s) f (g .1 .value-is) refl))
+  performs-value {s = s} e g f = performs-is e (was-made (g .0) (called (g .1 .does s) f (g .1 .value-is) refl))
 
   pub performs-buffer : {k : BufferCall} {s s1 : List ℕ} → object (buffer k) ≡ k′ → Answers k c s r s1 → Performs c s out r s1 out (some k′)
   performs-buffer e a = performs-is e (was-made (a .0 .0) (called (a .0 .1) refl (a .1) refl))
@@ -112,18 +110,18 @@ changes-is : {k k′ : Call} {c c1 : Context} {s s1 : List ℕ} {out out1 : List
 changes-is {c = c} {c1 = c1} {s = s} {s1 = s1} {out = out} {out1 = out1} e p = subst (λ (k : Call). Changes c s out c1 s1 out1 k) e p
 
 module _ {k′ : Call} {c : Context} {out : List Float} where
-  pub changes : {k : Call} {n : ℕ} {c1 : Context} {s s1 : List ℕ} → k ≡ k′ → Made c s k n c1 s1 → isDraw k ≡ false → Changes c s out c1 s1 out k′
+  pub changes : {k : Call} {n : ℕ} {c1 : Context} {s s1 : List ℕ} → k ≡ k′ → Did k c s n c1 s1 → isDraw k ≡ false → Changes c s out c1 s1 out k′
   changes {k = k} {n = n} e m f = changes-is e (record { number = n; value = valueOf k c n; made = called m f refl refl })
 
   pub changes-draw : {d : DrawCall} {s : List ℕ} {out1 : List Float} {a : DrawReply} → draw d ≡ k′ → DrewIn d c s out a out1 → Changes c s out (a .context) s out1 k′
   changes-draw {a = a} e m = changes-is e (record { number = a .number; value = a .count; made = drew m refl })
 
 -- where the loop puts back the part that the call changes, it has the context that the call left
-pub placed : {k : Call} {c c1 c2 : Context} {n : ℕ} {s s1 : List ℕ} → Made c s k n c1 s1 → c2 ≡ changedIn k c c1 → c2 ≡ c1
-placed m e = e ∙ changes-part (made-did m)
+pub placed : {k : Call} {c c1 c2 : Context} {n : ℕ} {s s1 : List ℕ} → Did k c s n c1 s1 → c2 ≡ changedIn k c c1 → c2 ≡ c1
+placed d e = e ∙ changes-part d
 
 -- the same where it puts back the current matrices
-pub currents-placed : {u : MatrixUpdate} {c c1 c2 : Context} {n : ℕ} {s s1 : List ℕ} {m : Currents} {t : Stacks} → Made c s (matrix (update u)) n c1 s1
+pub currents-placed : {u : MatrixUpdate} {c c1 c2 : Context} {n : ℕ} {s s1 : List ℕ} {m : Currents} {t : Stacks} → Did (matrix (update u)) c s n c1 s1
     → m ≡ currentsOf (c1 .stacks) → t ≡ putCurrents m (c .stacks) → c2 ≡ putError (c1 .error) (putStacks t c) → c2 ≡ c1
 currents-placed {c = c} {c1 = c1} d p q e =
     placed d (e ∙ ap (λ (x : Stacks). putError (c1 .error) (putStacks x c)) (q ∙ ap (λ (x : Currents). putCurrents x (c .stacks)) p))

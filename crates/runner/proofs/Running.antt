@@ -9,16 +9,15 @@ use native.Mathlib.Nat.{zero-add, add-zero, add-assoc}
 use borrow.Author.Tests.{lt-ltb, le-ltb, eq-eqb, ne-eqb, ltb-true, ltb-false, leb-true, le-leb, lt-leb}
 use lib.Dec.{ltb, leb}
 use lib.ListN.{length, take, drop, length-take, length-drop, take-append-drop}
-use lib.Seq.{getD-drop, drop-drop, drop-append-le}
+use lib.Seq.{getD-drop, drop-drop, drop-append-le, length-take-le}
 use lib.Ieee.{Float}
-use Rattle.vertex.specs.Scene.{DrawCall}
 use Rattle.draw.specs.Triangles.{Triangle, wordsOf}
 use Rattle.draw.specs.Draw.{outputOf}
 use Rattle.draw.proofs.Counts.{drawn-fits}
 use Rattle.context.specs.declared.Context.{Context}
-use Rattle.context.specs.declared.DrawReply.{DrawReply}
 use Rattle.context.specs.Calls.{Call, matrix, mode, object, attribute, pipeline, takeError, draw}
-use Rattle.history.specs.Demand3.{logs, drawReplayed, DrawMade, by-draw-elements, by-draw-arrays, by-draw-elements-from-guest, by-draw, Made, History, then}
+use Rattle.context.specs.Contract.{Did}
+use Rattle.history.specs.Demand3.{logs, drawReplayed, History, then}
 use Rattle.history.proofs.Demand3.{demand-3}
 use Rattle.words.specs.Words.{wordAt}
 use Rattle.records.specs.Encoding.{callOf, isRecord, recordCall}
@@ -146,11 +145,6 @@ module _ (words bytes : List ℕ) (place size room : ℕ) (e : size ≡ nextSize
 
 -- ---- the output of a call
 
-made-room : {c : Context} {s : List ℕ} {d : DrawCall} {out out1 : List Float} {r : DrawReply} → DrawMade c s d out r out1 → d .room ≡ length out
-made-room (by-draw-elements κs store guest indices out e p) = refl
-made-room (by-draw-arrays κs store guest out e p) = refl
-made-room (by-draw-elements-from-guest κs store guest out e p) = refl
-
 -- triangles in the first f32 of an output are triangles in the output
 within : (ts : List Triangle) (room : ℕ) (out : List Float) → 51 * length ts ≤ length (take room out) → outputOf ts (take room out) ++ drop room out ≡ outputOf ts out
 within ts room out h =
@@ -169,15 +163,15 @@ output-is {l = l} {out = out} {out1 = out1} {k = k} h (called m f v e) = go k f
     go takeError f = e
     go (draw d) f = absurd (true≢false f)
 output-is {l = l} {out = out} h (drew {d = d} m e) =
-    let w = demand-3 .replays h (m .made) in
+    let w = demand-3 .replays h (m .did) in
     m .output ∙ ap (λ (p : List Float). p ++ drop (d .room) out) (w .output)
-    ∙ within (drawReplayed (logs l) d .triangles) (d .room) out (subst (λ (k : ℕ). 51 * length (drawReplayed (logs l) d .triangles) ≤ k) (made-room (m .made)) (drawn-fits _ _ _ _ _))
+    ∙ within (drawReplayed (logs l) d .triangles) (d .room) out (subst (λ (k : ℕ). 51 * length (drawReplayed (logs l) d .triangles) ≤ k) (sym (length-take-le (d .room) out (m .room))) (drawn-fits _ _ _ _ _))
 
 -- ---- the loop over records
 
-performed-made : {c c1 : Context} {s s1 : List ℕ} {out out1 : List Float} {n value : ℕ} {k : Call} → Performed c s out n value c1 s1 out1 k → Made c s k n c1 s1
-performed-made (called m f v e) = m
-performed-made {c = c} {c1 = c1} {s = s} {n = n} {k = k} (drew m e) = subst (λ (t : List ℕ). Made c s k n c1 t) (sym e) (by-draw (m .made))
+performed-did : {c c1 : Context} {s s1 : List ℕ} {out out1 : List Float} {n value : ℕ} {k : Call} → Performed c s out n value c1 s1 out1 k → Did k c s n c1 s1
+performed-did (called d f v e) = d
+performed-did {c = c} {c1 = c1} {s = s} {n = n} {k = k} (drew m e) = subst (λ (t : List ℕ). Did k c s n c1 t) (sym e) (m .did .0)
 
 -- after one of several ways a call was made, and the lengths stay
 abbrev pub Stepped : Context → List ℕ → List Float → Call → Context → List ℕ → List Float → Type 0
@@ -286,7 +280,7 @@ unfolding outputFrom
 in-turn {before = before} {c = c} {s = s} h no-call = (subst (λ (l : List Call). History l c s) (sym (append-nil before)) h, refl)
 in-turn {before = before} {out = out} h (one-more {l = l} {k = k} {c2 = c2} {s2 = s2} t p) =
     let q = in-turn h t in (
-      subst (λ (m : List Call). History m c2 s2) (append-assoc before l (k ∷ [])) (then (q .0) (performed-made p)),
+      subst (λ (m : List Call). History m c2 s2) (append-assoc before l (k ∷ [])) (then (q .0) (performed-did p)),
       output-is (q .0) p ∙ ap (λ (o : List Float). outputAfter (logs (before ++ l)) k o) (q .1) ∙ sym (output-append before l (k ∷ []) out),
     )
 

@@ -7,7 +7,7 @@ use lib.Ieee.{Float, binary32, ofBits}
 use Rattle.context.specs.declared.Context.{Context}
 use Rattle.context.specs.declared.DrawReply.{DrawReply}
 use Rattle.context.specs.State.{Fresh}
-use Rattle.history.specs.Demand3.{DrawMade}
+use Rattle.history.specs.Demand3.{DrawDid}
 use Rattle.words.specs.Words.{wordAt}
 use Rattle.records.specs.declared.CallReply.{CallReply}
 use Rattle.records.specs.Perform.{Performs}
@@ -31,7 +31,7 @@ pub record CallDone (c : Context) (code : ℕ) (w bytes s : List ℕ) (out : Lis
 -- a draw was made with the words of a record, on a marked output
 pub record DrawDone (c : Context) (code : ℕ) (w s : List ℕ) (base : ℕ) (guest : List ℕ) (out : List Float) (c1 : Context) (out1 : List Float) : Type 0 where
   pub reply : DrawReply
-  pub made : DrawMade c s (drawOf code w base guest (length (marked out))) (marked out) reply out1
+  pub did : DrawDid (drawOf code w base guest (length (marked out))) c s reply (marked out) out1
   pub context : c1 ≡ reply .context
 
 -- a record on the context that is no call, with its first word: FRESH, UNSOUND; any other leaves it

@@ -2,12 +2,10 @@
 use borrow.Author.Needs.{needs}
 use Rattle.records.proofs.Records.{last-row}
 use Rattle.buffer_records.proofs.Answers.{answers-is, replied-is}
-use Rattle.history.proofs.References.{to, one}
 use mathlib.Core.Path.{refl, sym, ap, _∙_}
 use lib.Dec.{lit<}
 use Rattle.records.specs.Encoding.{bufferRows, bufferOf}
 use Rattle.context.specs.Calls.{gen, bind}
-use Rattle.history.specs.Demand3.{by-bind-buffer, by-delete-buffers}
 use Rattle.buffer_records.proofs.make_buffer.Statement.{statement}
 use Rattle.buffer_records.proofs.make_buffer.Tie as tie
 
@@ -16,15 +14,15 @@ long-at-requires c κs = search needs
 
 returns : tie.Need-returns
 unfolding bufferOf
-returns c = answers-is (ap gen (c .before .long-at .ensures) ∙ (λ i. bufferOf (c .before .before .before .before .before .before .args .bytes .now) (sym (c .before .before .match .keys1) i) (c .before .before .before .before .before .before .args .w .now))) ((c .make-gen .ensures .0, c .make-gen .ensures .1 .makes _), c .make-gen .ensures .1 .value-is)
+returns c = answers-is (ap gen (c .before .long-at .ensures) ∙ (λ i. bufferOf (c .before .before .before .before .before .before .args .bytes .now) (sym (c .before .before .match .keys1) i) (c .before .before .before .before .before .before .args .w .now))) ((c .make-gen .ensures .0, c .make-gen .ensures .1 .does _), c .make-gen .ensures .1 .value-is)
 
 returns-2 : tie.Need-returns-2
 unfolding bufferOf
-returns-2 c = answers-is ((λ i. bind (c .before .before .before .word-at .ensures i) (c .before .before .word-at2 .ensures i)) ∙ (λ i. bufferOf (c .before .before .before .before .before .before .before .before .args .bytes .now) (sym (c .before .before .before .before .match .keys2) i) (c .before .before .before .before .before .before .before .before .args .w .now))) (replied-is (c .replied .ensures) (by-bind-buffer (c .before .bind-buffer .ensures)) refl)
+returns-2 c = answers-is ((λ i. bind (c .before .before .before .word-at .ensures i) (c .before .before .word-at2 .ensures i)) ∙ (λ i. bufferOf (c .before .before .before .before .before .before .before .before .args .bytes .now) (sym (c .before .before .before .before .match .keys2) i) (c .before .before .before .before .before .before .before .before .args .w .now))) (replied-is (c .replied .ensures) (c .before .bind-buffer .ensures _) refl)
 
 returns-3 : tie.Need-returns-3
 unfolding bufferOf
-returns-3 c = answers-is (λ i. bufferOf (c .before .before .before .before .before .before .args .bytes .now) (sym (c .before .before .match .keys3) i) (c .before .before .before .before .before .before .args .w .now)) (replied-is (c .replied2 .ensures) (by-delete-buffers one (to _) (c .before .delete-buffers .ensures)) refl)
+returns-3 c = answers-is (λ i. bufferOf (c .before .before .before .before .before .before .args .bytes .now) (sym (c .before .before .match .keys3) i) (c .before .before .before .before .before .before .args .w .now)) (replied-is (c .replied2 .ensures) (c .before .delete-buffers .ensures _) refl)
 
 returns-4 : tie.Need-returns-4
 unfolding bufferOf

@@ -1,15 +1,12 @@
 -- `buffer_records::make_data` meets its contract.
 use Rattle.context.specs.Calls.{object, buffer, bufferData}
-use Rattle.history.specs.Demand3.{by-buffer-data}
-use Rattle.buffer_records.proofs.Answers.{made-is}
-use Rattle.history.proofs.References.{to, two}
-use mathlib.Core.Path.{refl}
+use Rattle.buffer_records.proofs.Answers.{did-is}
 use borrow.Author.Needs.{needs}
 use Rattle.buffer_records.proofs.make_data.Statement.{statement}
 use Rattle.buffer_records.proofs.make_data.Tie as tie
 
 returns : tie.Need-returns
-returns c = made-is (λ i. object (buffer (bufferData (c .before .before .before .before .before .before .before .word-at .ensures i) (c .before .before .before .before .before .before .long-at .ensures i) (c .before .before .before .before .part-at .ensures i) (c .before .before .before .before .before .word-at2 .ensures i)))) (by-buffer-data two (to _) (to _) refl (c .before .before .buffer-data .ensures))
+returns c = did-is (λ i. object (buffer (bufferData (c .before .before .before .before .before .before .before .word-at .ensures i) (c .before .before .before .before .before .before .long-at .ensures i) (c .before .before .before .before .part-at .ensures i) (c .before .before .before .before .before .word-at2 .ensures i)))) (c .before .before .buffer-data .ensures)
 
 pub make-data-spec : {M : Type 1} → statement M
 make-data-spec =

@@ -1,15 +1,12 @@
 -- `buffer_records::make_sub_data` meets its contract.
 use Rattle.context.specs.Calls.{object, buffer, bufferSubData}
-use Rattle.history.specs.Demand3.{by-buffer-sub-data}
-use Rattle.buffer_records.proofs.Answers.{made-is}
-use Rattle.history.proofs.References.{to, two}
-use mathlib.Core.Path.{refl}
+use Rattle.buffer_records.proofs.Answers.{did-is}
 use borrow.Author.Needs.{needs}
 use Rattle.buffer_records.proofs.make_sub_data.Statement.{statement}
 use Rattle.buffer_records.proofs.make_sub_data.Tie as tie
 
 returns : tie.Need-returns
-returns c = made-is (λ i. object (buffer (bufferSubData (c .before .before .before .before .before .before .word-at .ensures i) (c .before .before .before .before .before .word-at2 .ensures i) (c .before .before .before .before .part-at .ensures i)))) (by-buffer-sub-data two (to _) (to _) refl (c .before .before .buffer-sub-data .ensures))
+returns c = did-is (λ i. object (buffer (bufferSubData (c .before .before .before .before .before .before .word-at .ensures i) (c .before .before .before .before .before .word-at2 .ensures i) (c .before .before .before .before .part-at .ensures i)))) (c .before .before .buffer-sub-data .ensures)
 
 pub make-sub-data-spec : {M : Type 1} → statement M
 make-sub-data-spec =

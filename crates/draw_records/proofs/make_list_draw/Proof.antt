@@ -1,9 +1,7 @@
 -- `draw_records::make_list_draw` meets its contract.
-use mathlib.Core.Path.{refl, ap}
+use mathlib.Core.Path.{ap}
 use Rattle.draw_records.proofs.Draws.{room-fits, room-is, drew-in}
 use Rattle.vertex.specs.Scene.{list}
-use Rattle.history.specs.Demand3.{by-draw-elements}
-use Rattle.history.proofs.References.{to, three}
 use borrow.Author.Needs.{needs}
 use Rattle.draw_records.proofs.make_list_draw.Statement.{statement}
 use Rattle.draw_records.proofs.make_list_draw.Tie as tie
@@ -15,7 +13,7 @@ slice-aggregate-draw-elements : tie.Need-slice-aggregate-draw-elements
 slice-aggregate-draw-elements c = room-is (c .before .before .before .before .before .before .before .before .args .w .now) (c .before .before .before .before .before .before .before .before .args .out .now) _ (c .before .before .before .draw-words .ensures)
 
 returns : tie.Need-returns
-returns c = drew-in (c .before .before .before .before .before .before .before .before .before .before .before .args .w .now) (c .before .before .before .before .before .before .before .before .before .before .before .args .out .now) _ (c .before .before .before .before .before .before .draw-words .ensures) (c .before .before .before .before .before .before .before .before .before .before .before .args .bytes .now) _ (c .before .before .before .before .before .part-at .ensures) _ _ (ap list (c .before .before .before .before .words-from .ensures)) (by-draw-elements three (to _) (to _) (to _) (to _) refl (c .before .before .draw-elements .ensures))
+returns c = drew-in (c .before .before .before .before .before .before .before .before .before .before .before .args .w .now) (c .before .before .before .before .before .before .before .before .before .before .before .args .out .now) _ (c .before .before .before .before .before .before .draw-words .ensures) (c .before .before .before .before .before .before .before .before .before .before .before .args .bytes .now) _ (c .before .before .before .before .before .part-at .ensures) _ _ (ap list (c .before .before .before .before .words-from .ensures)) (c .before .before .draw-elements .ensures)
 
 pub make-list-draw-spec : {M : Type 1} → statement M
 make-list-draw-spec =

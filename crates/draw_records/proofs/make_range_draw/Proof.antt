@@ -1,9 +1,6 @@
 -- `draw_records::make_range_draw` meets its contract.
-use mathlib.Core.Path.{refl}
 use Rattle.draw_records.proofs.Draws.{room-fits, room-is, drew-in}
 use Rattle.vertex.specs.Scene.{range}
-use Rattle.history.specs.Demand3.{by-draw-arrays}
-use Rattle.history.proofs.References.{to, two}
 use borrow.Author.Needs.{needs}
 use Rattle.draw_records.proofs.make_range_draw.Statement.{statement}
 use Rattle.draw_records.proofs.make_range_draw.Tie as tie
@@ -15,7 +12,7 @@ slice-aggregate-draw-arrays : tie.Need-slice-aggregate-draw-arrays
 slice-aggregate-draw-arrays c = room-is (c .before .before .before .before .before .before .before .before .before .args .w .now) (c .before .before .before .before .before .before .before .before .before .args .out .now) _ (c .before .before .before .before .draw-words .ensures)
 
 returns : tie.Need-returns
-returns c = drew-in (c .before .before .before .before .before .before .before .before .before .before .before .before .args .w .now) (c .before .before .before .before .before .before .before .before .before .before .before .before .args .out .now) _ (c .before .before .before .before .before .before .before .draw-words .ensures) (c .before .before .before .before .before .before .before .before .before .before .before .before .args .bytes .now) _ (c .before .before .before .before .before .before .part-at .ensures) _ _ (λ i. range (c .before .before .before .before .before .word-at .ensures i) (c .before .before .before .before .word-at2 .ensures i)) (by-draw-arrays two (to _) (to _) (to _) refl (c .before .before .draw-arrays .ensures))
+returns c = drew-in (c .before .before .before .before .before .before .before .before .before .before .before .before .args .w .now) (c .before .before .before .before .before .before .before .before .before .before .before .before .args .out .now) _ (c .before .before .before .before .before .before .before .draw-words .ensures) (c .before .before .before .before .before .before .before .before .before .before .before .before .args .bytes .now) _ (c .before .before .before .before .before .before .part-at .ensures) _ _ (λ i. range (c .before .before .before .before .before .word-at .ensures i) (c .before .before .before .before .word-at2 .ensures i)) (c .before .before .draw-arrays .ensures)
 
 pub make-range-draw-spec : {M : Type 1} → statement M
 make-range-draw-spec =

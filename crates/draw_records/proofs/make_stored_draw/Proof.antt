@@ -1,9 +1,6 @@
 -- `draw_records::make_stored_draw` meets its contract.
-use mathlib.Core.Path.{refl}
 use Rattle.draw_records.proofs.Draws.{room-fits, room-is, drew-in}
 use Rattle.vertex.specs.Scene.{elements}
-use Rattle.history.specs.Demand3.{by-draw-elements-from-guest}
-use Rattle.history.proofs.References.{to, two}
 use borrow.Author.Needs.{needs}
 use Rattle.draw_records.proofs.make_stored_draw.Statement.{statement}
 use Rattle.draw_records.proofs.make_stored_draw.Tie as tie
@@ -16,7 +13,7 @@ slice-aggregate-draw-elements-from-guest : tie.Need-slice-aggregate-draw-element
 slice-aggregate-draw-elements-from-guest c = room-is (c .before .before .before .before .before .before .before .before .before .before .args .w .now) (c .before .before .before .before .before .before .before .before .before .before .args .out .now) _ (c .before .before .before .before .before .draw-words .ensures)
 
 returns : tie.Need-returns
-returns c = drew-in (c .before .before .before .before .before .before .before .before .before .before .before .before .before .args .w .now) (c .before .before .before .before .before .before .before .before .before .before .before .before .before .args .out .now) _ (c .before .before .before .before .before .before .before .before .draw-words .ensures) (c .before .before .before .before .before .before .before .before .before .before .before .before .before .args .bytes .now) _ (c .before .before .before .before .before .before .before .part-at .ensures) _ _ (λ i. elements (c .before .before .before .before .before .before .word-at .ensures i) (c .before .before .before .before .before .word-at2 .ensures i) (c .before .before .before .before .word-at3 .ensures i)) (by-draw-elements-from-guest two (to _) (to _) (to _) refl (c .before .before .draw-elements-from-guest .ensures))
+returns c = drew-in (c .before .before .before .before .before .before .before .before .before .before .before .before .before .args .w .now) (c .before .before .before .before .before .before .before .before .before .before .before .before .before .args .out .now) _ (c .before .before .before .before .before .before .before .before .draw-words .ensures) (c .before .before .before .before .before .before .before .before .before .before .before .before .before .args .bytes .now) _ (c .before .before .before .before .before .before .before .part-at .ensures) _ _ (λ i. elements (c .before .before .before .before .before .before .word-at .ensures i) (c .before .before .before .before .before .word-at2 .ensures i) (c .before .before .before .before .word-at3 .ensures i)) (c .before .before .draw-elements-from-guest .ensures)
 
 pub make-stored-draw-spec : {M : Type 1} → statement M
 make-stored-draw-spec =

@@ -3,7 +3,7 @@ use denote.Ref.{now}
 use mathlib.Core.Path.{refl}
 use Rattle.records.proofs.Records.{last-row}
 use Rattle.driver.specs.Draws.{sourceRows, sourceOf}
-use Rattle.driver.proofs.Drawing.{made-as}
+use Rattle.driver.proofs.Drawing.{did-as}
 use borrow.Author.Needs.{needs}
 use Rattle.driver.proofs.draw.Statement.{statement}
 use Rattle.driver.proofs.draw.Tie as tie
@@ -18,7 +18,7 @@ returns-2 c = rw (c .before .before .before .before .match .keys2) (c .before .b
 
 returns-3 : tie.Need-returns-3
 unfolding sourceOf
-returns-3 c = made-as (last-row (sourceRows (now (c .before .before .before .before .before .before .before .before .before .args .w))) _ _ (c .before .before .before .before .match .rest)) refl refl (c .before .before .draw-stored .ensures)
+returns-3 c = did-as (last-row (sourceRows (now (c .before .before .before .before .before .before .before .before .before .args .w))) _ _ (c .before .before .before .before .match .rest)) refl refl (c .before .before .draw-stored .ensures)
 
 pub draw-spec : {M : Type 1} → statement M
 draw-spec =

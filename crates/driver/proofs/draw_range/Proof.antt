@@ -1,13 +1,12 @@
--- `driver::draw_range` meets its contract: demand 3's `with-view` makes what the draw on a view ensures a `DrawMade`.
+-- `driver::draw_range` meets its contract, from the draw on a view.
 use Rattle.vertex.specs.Scene.{range}
-use Rattle.history.proofs.Demand3.{demand-3}
-use Rattle.driver.proofs.Drawing.{made-as}
+use Rattle.driver.proofs.Drawing.{did-as}
 use borrow.Author.Needs.{needs}
 use Rattle.driver.proofs.draw_range.Statement.{statement}
 use Rattle.driver.proofs.draw_range.Tie as tie
 
 returns : tie.Need-returns
-returns c = made-as (λ i. range (c .before .before .before .before .before .word-at3 .ensures i) (c .before .before .before .before .word-at4 .ensures i)) (c .before .before .before .before .before .before .before .word-at .ensures) (c .before .before .before .before .before .before .word-at2 .ensures) (demand-3 .with-view (c .before .before .draw-arrays .ensures .0) (c .before .before .draw-arrays .ensures .1))
+returns c = did-as (λ i. range (c .before .before .before .before .before .word-at3 .ensures i) (c .before .before .before .before .word-at4 .ensures i)) (c .before .before .before .before .before .before .before .word-at .ensures) (c .before .before .before .before .before .before .word-at2 .ensures) (c .before .before .draw-arrays .ensures)
 
 pub draw-range-spec : {M : Type 1} → statement M
 draw-range-spec =

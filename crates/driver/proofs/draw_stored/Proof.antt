@@ -1,13 +1,12 @@
--- `driver::draw_stored` meets its contract: demand 3's `with-view` makes what the draw on a view ensures a `DrawMade`.
+-- `driver::draw_stored` meets its contract, from the draw on a view.
 use Rattle.vertex.specs.Scene.{elements}
-use Rattle.history.proofs.Demand3.{demand-3}
-use Rattle.driver.proofs.Drawing.{made-as}
+use Rattle.driver.proofs.Drawing.{did-as}
 use borrow.Author.Needs.{needs}
 use Rattle.driver.proofs.draw_stored.Statement.{statement}
 use Rattle.driver.proofs.draw_stored.Tie as tie
 
 returns : tie.Need-returns
-returns c = made-as (λ i. elements (c .before .before .before .before .before .before .word-at3 .ensures i) (c .before .before .before .before .before .word-at4 .ensures i) (c .before .before .before .before .word-at5 .ensures i)) (c .before .before .before .before .before .before .before .before .word-at .ensures) (c .before .before .before .before .before .before .before .word-at2 .ensures) (demand-3 .with-view (c .before .before .draw-elements-from-guest .ensures .0) (c .before .before .draw-elements-from-guest .ensures .1))
+returns c = did-as (λ i. elements (c .before .before .before .before .before .before .word-at3 .ensures i) (c .before .before .before .before .before .word-at4 .ensures i) (c .before .before .before .before .word-at5 .ensures i)) (c .before .before .before .before .before .before .before .before .word-at .ensures) (c .before .before .before .before .before .before .before .word-at2 .ensures) (c .before .before .draw-elements-from-guest .ensures)
 
 pub draw-stored-spec : {M : Type 1} → statement M
 draw-stored-spec =

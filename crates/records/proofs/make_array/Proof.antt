@@ -1,36 +1,35 @@
 -- `records::make_array` meets its contract: each arm makes the call of its row.
 use mathlib.Core.Path.{ap}
 use Rattle.context.specs.Calls.{object, array}
-use Rattle.history.specs.Demand3.{by-set-vertex-pointer, by-set-color-pointer, by-set-normal-pointer, by-set-texcoord-pointer, by-set-client-state, by-set-client-active-texture}
 use Rattle.records.specs.Encoding.{arrayOf, arrayRows}
-use Rattle.records.proofs.Records.{last-row, makes-is}
+use Rattle.records.proofs.Records.{last-row, does-is}
 use borrow.Author.Needs.{needs}
 use Rattle.records.proofs.make_array.Statement.{statement}
 use Rattle.records.proofs.make_array.Tie as tie
 
 returns : tie.Need-returns
 unfolding arrayOf
-returns c = rw (c .before .match .keys1) (λ s. by-set-vertex-pointer (c .set-vertex-pointer .ensures))
+returns c = rw (c .before .match .keys1) (c .set-vertex-pointer .ensures)
 
 returns-2 : tie.Need-returns-2
 unfolding arrayOf
-returns-2 c = rw (c .before .match .keys2) (λ s. by-set-color-pointer (c .set-color-pointer .ensures))
+returns-2 c = rw (c .before .match .keys2) (c .set-color-pointer .ensures)
 
 returns-3 : tie.Need-returns-3
 unfolding arrayOf
-returns-3 c = rw (c .before .match .keys3) (λ s. by-set-normal-pointer (c .set-normal-pointer .ensures))
+returns-3 c = rw (c .before .match .keys3) (c .set-normal-pointer .ensures)
 
 returns-4 : tie.Need-returns-4
 unfolding arrayOf
-returns-4 c = rw (c .before .match .keys4) (λ s. by-set-texcoord-pointer (c .set-texcoord-pointer .ensures))
+returns-4 c = rw (c .before .match .keys4) (c .set-texcoord-pointer .ensures)
 
 returns-5 : tie.Need-returns-5
 unfolding arrayOf
-returns-5 c = rw (c .before .match .keys5) (λ s. by-set-client-state (c .set-client-state .ensures))
+returns-5 c = rw (c .before .match .keys5) (c .set-client-state .ensures)
 
 returns-6 : tie.Need-returns-6
 unfolding arrayOf
-returns-6 c = makes-is (ap (λ k. object (array k)) (last-row (arrayRows (c .before .before .args .a) (c .before .before .args .b) (c .before .before .args .d) (c .before .before .args .e)) _ _ (c .before .match .rest))) (λ s. by-set-client-active-texture (c .set-client-active-texture .ensures))
+returns-6 c = does-is (ap (λ k. object (array k)) (last-row (arrayRows (c .before .before .args .a) (c .before .before .args .b) (c .before .before .args .d) (c .before .before .args .e)) _ _ (c .before .match .rest))) (c .set-client-active-texture .ensures)
 
 pub make-array-spec : {M : Type 1} → statement M
 make-array-spec =

@@ -1,20 +1,19 @@
 -- `records::make_attribute` meets its contract: each arm makes the call of its row.
 use mathlib.Core.Path.{ap}
 use Rattle.context.specs.Calls.{attribute}
-use Rattle.history.specs.Demand3.{by-set-color, by-set-multi-texcoord}
 use Rattle.records.specs.Encoding.{attributeOf, attributeRows}
-use Rattle.records.proofs.Records.{last-row, makes-is}
+use Rattle.records.proofs.Records.{last-row, does-is}
 use borrow.Author.Needs.{needs}
 use Rattle.records.proofs.make_attribute.Statement.{statement}
 use Rattle.records.proofs.make_attribute.Tie as tie
 
 returns : tie.Need-returns
 unfolding attributeOf
-returns c = rw (c .before .match .keys1) (λ s. by-set-color (c .set-color .ensures))
+returns c = rw (c .before .match .keys1) (c .set-color .ensures)
 
 returns-2 : tie.Need-returns-2
 unfolding attributeOf
-returns-2 c = makes-is (ap attribute (last-row (attributeRows (c .before .before .args .a) (c .before .before .args .t4)) _ _ (c .before .match .rest))) (λ s. by-set-multi-texcoord (c .set-multi-texcoord .ensures))
+returns-2 c = does-is (ap attribute (last-row (attributeRows (c .before .before .args .a) (c .before .before .args .t4)) _ _ (c .before .match .rest))) (c .set-multi-texcoord .ensures)
 
 pub make-attribute-spec : {M : Type 1} → statement M
 make-attribute-spec =

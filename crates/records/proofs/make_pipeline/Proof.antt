@@ -1,56 +1,55 @@
 -- `records::make_pipeline` meets its contract: each arm makes the call of its row.
 use mathlib.Core.Path.{ap}
 use Rattle.context.specs.Calls.{pipeline}
-use Rattle.history.specs.Demand3.{by-set-active-texture, by-set-capability, by-tex-env, by-set-tex-env-color, by-set-depth-func, by-set-alpha-func, by-set-blend-func, by-set-cull-face, by-set-front-face, by-set-fog, by-set-depth-range}
 use Rattle.records.specs.Encoding.{pipelineOf, pipelineRows}
-use Rattle.records.proofs.Records.{last-row, makes-is}
+use Rattle.records.proofs.Records.{last-row, does-is}
 use borrow.Author.Needs.{needs}
 use Rattle.records.proofs.make_pipeline.Statement.{statement}
 use Rattle.records.proofs.make_pipeline.Tie as tie
 
 returns : tie.Need-returns
 unfolding pipelineOf
-returns c = rw (c .before .match .keys1) (λ s. by-set-active-texture (c .set-active-texture .ensures))
+returns c = rw (c .before .match .keys1) (c .set-active-texture .ensures)
 
 returns-2 : tie.Need-returns-2
 unfolding pipelineOf
-returns-2 c = rw (c .before .match .keys2) (λ s. by-set-capability (c .set-capability .ensures))
+returns-2 c = rw (c .before .match .keys2) (c .set-capability .ensures)
 
 returns-3 : tie.Need-returns-3
 unfolding pipelineOf
-returns-3 c = rw (c .before .match .keys3) (λ s. by-tex-env (c .tex-env .ensures))
+returns-3 c = rw (c .before .match .keys3) (c .tex-env .ensures)
 
 returns-4 : tie.Need-returns-4
 unfolding pipelineOf
-returns-4 c = rw (c .before .match .keys4) (λ s. by-set-tex-env-color (c .set-tex-env-color .ensures))
+returns-4 c = rw (c .before .match .keys4) (c .set-tex-env-color .ensures)
 
 returns-5 : tie.Need-returns-5
 unfolding pipelineOf
-returns-5 c = rw (c .before .match .keys5) (λ s. by-set-depth-func (c .set-depth-func .ensures))
+returns-5 c = rw (c .before .match .keys5) (c .set-depth-func .ensures)
 
 returns-6 : tie.Need-returns-6
 unfolding pipelineOf
-returns-6 c = rw (c .before .match .keys6) (λ s. by-set-alpha-func (c .set-alpha-func .ensures))
+returns-6 c = rw (c .before .match .keys6) (c .set-alpha-func .ensures)
 
 returns-7 : tie.Need-returns-7
 unfolding pipelineOf
-returns-7 c = rw (c .before .match .keys7) (λ s. by-set-blend-func (c .set-blend-func .ensures))
+returns-7 c = rw (c .before .match .keys7) (c .set-blend-func .ensures)
 
 returns-8 : tie.Need-returns-8
 unfolding pipelineOf
-returns-8 c = rw (c .before .match .keys8) (λ s. by-set-cull-face (c .set-cull-face .ensures))
+returns-8 c = rw (c .before .match .keys8) (c .set-cull-face .ensures)
 
 returns-9 : tie.Need-returns-9
 unfolding pipelineOf
-returns-9 c = rw (c .before .match .keys9) (λ s. by-set-front-face (c .set-front-face .ensures))
+returns-9 c = rw (c .before .match .keys9) (c .set-front-face .ensures)
 
 returns-10 : tie.Need-returns-10
 unfolding pipelineOf
-returns-10 c = rw (c .before .match .keys10) (λ s. by-set-fog (c .set-fog .ensures))
+returns-10 c = rw (c .before .match .keys10) (c .set-fog .ensures)
 
 returns-11 : tie.Need-returns-11
 unfolding pipelineOf
-returns-11 c = makes-is (ap pipeline (last-row (pipelineRows (c .before .before .args .a) (c .before .before .args .b) (c .before .before .args .t5)) _ _ (c .before .match .rest))) (λ s. by-set-depth-range (c .set-depth-range .ensures))
+returns-11 c = does-is (ap pipeline (last-row (pipelineRows (c .before .before .args .a) (c .before .before .args .b) (c .before .before .args .t5)) _ _ (c .before .match .rest))) (c .set-depth-range .ensures)
 
 pub make-pipeline-spec : {M : Type 1} → statement M
 make-pipeline-spec =

@@ -1,13 +1,13 @@
 -- `records::pipeline_record` meets its contract: the words are the call's.
 use Rattle.context.specs.Calls.{pipeline}
 use Rattle.records.specs.Encoding.{pipelineOf}
-use Rattle.records.proofs.Records.{makes-is}
+use Rattle.records.proofs.Records.{does-is}
 use borrow.Author.Needs.{needs}
 use Rattle.records.proofs.pipeline_record.Statement.{statement}
 use Rattle.records.proofs.pipeline_record.Tie as tie
 
 returns : tie.Need-returns
-returns c = makes-is (λ i. pipeline (pipelineOf (c .before .before .before .before .before .args .code) (c .before .before .before .word-at .ensures i) (c .before .before .word-at2 .ensures i) (c .before .four-floats .ensures i))) (c .make-pipeline .ensures)
+returns c = does-is (λ i. pipeline (pipelineOf (c .before .before .before .before .before .args .code) (c .before .before .before .word-at .ensures i) (c .before .before .word-at2 .ensures i) (c .before .four-floats .ensures i))) (c .make-pipeline .ensures)
 
 pub pipeline-record-spec : {M : Type 1} → statement M
 pipeline-record-spec = tie.close (tie.spec (λ c κs. search needs) (λ c κs. search needs) (λ c κs. search needs) (λ c κs. search needs) returns)

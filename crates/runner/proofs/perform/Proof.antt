@@ -3,7 +3,6 @@ use mathlib.Core.Path.{refl, ap, _∙_}
 use lib.Ieee.{Float}
 use mathlib.Core.List.{List}
 use Rattle.context.specs.Calls.{matrix, mode}
-use Rattle.history.specs.Demand3.{by-set-matrix-mode}
 use Rattle.records.specs.Encoding.{matrixOf}
 use Rattle.runner.proofs.Calls.{is-mode, is-matrix, is-buffer, is-array, is-attribute, is-pipeline, is-take-error, is-draw, performs, performs-value, performs-buffer, performs-draw}
 use borrow.Author.Needs.{needs}
@@ -11,7 +10,7 @@ use Rattle.runner.proofs.perform.Statement.{statement}
 use Rattle.runner.proofs.perform.Tie as tie
 
 returns : tie.Need-returns
-returns c = performs (ap mode (c .before .before .word-at .ensures) ∙ is-mode (c .before .before .before .before .before .before .before .before .args .bytes .now) _ (c .before .before .before .before .before .before .before .before .args .code) (c .before .before .before .before .before .before .before .before .args .w .now) (c .before .before .before .if1 .taken)) (c .replied .ensures) (λ s. by-set-matrix-mode (c .before .set-matrix-mode .ensures)) refl refl
+returns c = performs (ap mode (c .before .before .word-at .ensures) ∙ is-mode (c .before .before .before .before .before .before .before .before .args .bytes .now) _ (c .before .before .before .before .before .before .before .before .args .code) (c .before .before .before .before .before .before .before .before .args .w .now) (c .before .before .before .if1 .taken)) (c .replied .ensures) (c .before .set-matrix-mode .ensures) refl refl
 
 returns-2 : tie.Need-returns-2
 returns-2 c = performs (ap (λ (f : List Float). matrix (matrixOf (c .before .before .before .before .before .before .before .before .before .args .code) f)) (c .before .before .matrix-floats .ensures) ∙ is-matrix (c .before .before .before .before .before .before .before .before .before .args .bytes .now) _ (c .before .before .before .before .before .before .before .before .before .args .code) (c .before .before .before .before .before .before .before .before .before .args .w .now) (c .before .before .before .before .if1 .left) (c .before .before .before .if2 .taken)) (c .replied2 .ensures) (c .before .make-matrix .ensures) refl refl

@@ -9,7 +9,6 @@ use lib.Ieee.{Float}
 use lib.ListN.{length, take, drop}
 use Rattle.stack.specs.Stack.{update}
 use Rattle.context.specs.Calls.{matrix, mode}
-use Rattle.history.specs.Demand3.{by-set-matrix-mode, by-push-matrix, by-pop-matrix, by-draw}
 use Rattle.records.specs.Encoding.{updateOf, callOf}
 use Rattle.runner.proofs.Calls.{is-mode, is-push, is-pop, is-update, is-buffer, is-array, is-attribute, is-pipeline, is-take-error, is-draw, changes, changes-draw, placed, currents-placed}
 use Rattle.runner.proofs.Running.{next-inside, Progress, progress-start, progress-next, progress-stop, progress-done, Stepped, joined, stayed}
@@ -67,16 +66,16 @@ loop-again c =
     let i = next-inside words bytes (at .place) (size .result) 0 (size .ensures) is-one in
     let w = take (at .place + size .result - (at .place + 2)) (drop (at .place + 2) words) in
     let made : Stepped (at .c) (at .store) (at .out) (callOf bytes (length (at .out)) (code .result) w) (c .if2 .c) (c .if2 .store) (c .if2 .out) =
-    (⊎-elim (λ z. joined (stayed (changes (is-push bytes _ _ _ (z .0 .taken)) (by-push-matrix (z .1 .ensures)) refl)) (z .3) (z .4) (z .5))
-    (⊎-elim (λ z. joined (stayed (changes (is-pop bytes _ _ _ (z .1 .taken)) (by-pop-matrix (z .2 .ensures)) refl)) (z .4) (z .5) (z .6))
-    (⊎-elim (λ z. joined (stayed (changes (ap mode (z .3 .ensures) ∙ is-mode bytes _ _ _ (z .2 .taken)) (by-set-matrix-mode (z .4 .ensures)) refl)) (z .6) (z .7) (z .8))
+    (⊎-elim (λ z. joined (stayed (changes (is-push bytes _ _ _ (z .0 .taken)) (z .1 .ensures _) refl)) (z .3) (z .4) (z .5))
+    (⊎-elim (λ z. joined (stayed (changes (is-pop bytes _ _ _ (z .1 .taken)) (z .2 .ensures _) refl)) (z .4) (z .5) (z .6))
+    (⊎-elim (λ z. joined (stayed (changes (ap mode (z .3 .ensures) ∙ is-mode bytes _ _ _ (z .2 .taken)) (z .4 .ensures _) refl)) (z .6) (z .7) (z .8))
     (⊎-elim (λ z. let m = z .5 .ensures _ in joined (stayed (changes (ap (λ (f : List Float). matrix (update (updateOf (code .result) f))) (z .4 .ensures) ∙ is-update bytes _ _ _ (z .0 .left) (z .1 .left) (z .2 .left) (z .3 .taken)) m refl)) (z .8) (z .9) (currents-placed m (z .6 .ensures) (z .7 .ensures) (z .10)))
     (⊎-elim (λ z. let m = z .6 .ensures .0 .1 in joined (changes (is-buffer bytes _ _ _ (z .3 .left) (z .4 .taken)) m refl, z .6 .kept .1 .0, refl) (z .10) (z .11) (placed m (z .12)))
     (⊎-elim (λ z. let m = z .6 .ensures _ in joined (stayed (changes (is-array bytes _ _ _ (z .4 .left) (z .5 .taken)) m refl)) (z .8) (z .9) (placed m (z .10)))
     (⊎-elim (λ z. let m = z .7 .ensures _ in joined (stayed (changes (is-attribute bytes _ _ _ (z .4 .left) (z .5 .left) (z .6 .taken)) m refl)) (z .9) (z .10) (placed m (z .11)))
     (⊎-elim (λ z. let m = z .8 .ensures _ in joined (stayed (changes (is-pipeline bytes _ _ _ (z .4 .left) (z .5 .left) (z .6 .left) (z .7 .taken)) m refl)) (z .10) (z .11) (placed m (z .12)))
-    (⊎-elim (λ z. let m = z .9 .ensures .1 .makes _ in joined (stayed (changes (is-take-error bytes _ _ _ (z .4 .left) (z .5 .left) (z .6 .left) (z .7 .left) (z .8 .taken)) m refl)) (z .10) (z .11) (placed m (z .12)))
-    (λ z. let m = z .11 .ensures in joined (changes-draw (is-draw bytes _ _ _ (z .4 .left) (z .5 .left) (z .6 .left) (z .7 .left) (z .8 .left)) m, refl, z .11 .kept .1 .1 .1 .1 .1 .0) (z .14) (z .15) (placed (by-draw (m .made)) (z .16)))))))))))) (c .if2 .came)
+    (⊎-elim (λ z. let m = z .9 .ensures .1 .does _ in joined (stayed (changes (is-take-error bytes _ _ _ (z .4 .left) (z .5 .left) (z .6 .left) (z .7 .left) (z .8 .taken)) m refl)) (z .10) (z .11) (placed m (z .12)))
+    (λ z. let m = z .11 .ensures in joined (changes-draw (is-draw bytes _ _ _ (z .4 .left) (z .5 .left) (z .6 .left) (z .7 .left) (z .8 .left)) m, refl, z .11 .kept .1 .1 .1 .1 .1 .0) (z .14) (z .15) (placed (m .did .0) (z .16)))))))))))) (c .if2 .came)
     in (
       progress-next (at .inv .0) (c .before .before .before .before .before .loop-test .taken) (at .inv .3) (size .ensures) is-one (code .ensures) (made .0),
       omega (arith, i .1),

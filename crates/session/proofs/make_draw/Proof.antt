@@ -5,7 +5,7 @@ use Rattle.session.proofs.make_draw.Statement.{statement}
 use Rattle.session.proofs.make_draw.Tie as tie
 
 returns : tie.Need-returns
-returns c = record { reply = _; made = rw (c .before .before .before .before .before .before .before .before .before .before .before .before .before .before .mark .ensures) at (c .before .before .before .before .before .before .before .before .before .before .draw .ensures); context = refl }
+returns c = record { reply = _; did = rw (c .before .before .before .before .before .before .before .before .before .before .before .before .before .before .mark .ensures) at (c .before .before .before .before .before .before .before .before .before .before .draw .ensures); context = refl }
 
 pub make-draw-spec : {M : Type 1} → statement M
 make-draw-spec =
