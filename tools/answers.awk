@@ -37,3 +37,21 @@ function fault(line,    part) {
 
 # What is wrong after the last line.
 function fault_at_end() { return left > 0 ? "ends inside a draw" : "" }
+
+# How far the work is, on a terminal: said for every hundredth part of `lines` lines, which the environment gives; 0 where there is no terminal.
+BEGIN { all_lines = ENVIRON["lines"] + 0 }
+
+function pass_line() {
+    if (all_lines < 20000 || ++passed < next_told) return
+    tell(sprintf("%d %% ", 100 * passed / all_lines))
+    next_told = passed + all_lines / 100
+    told = 1
+}
+
+# Before anything else is printed.
+function clear_told() {
+    if (told) tell("\033[K")
+    told = 0
+}
+
+function tell(text) { printf "\r%s", text > "/dev/stderr"; fflush("/dev/stderr") }

@@ -2,7 +2,7 @@
 # environment has the paths as first and second (two different ones) and the names for the reader as first_name and second_name. Needs
 # f32.awk and answers.awk. Status: 0 no difference, 1 differences, 2 a file that holds no answers; then nothing is printed but the reason.
 
-function bad(text) { print "compare: " text | "cat 1>&2"; exit 2 }
+function bad(text) { clear_told(); print "compare: " text | "cat 1>&2"; exit 2 }
 
 # As text: as numbers 00000000 and 0000e000 would be equal.
 function same(a, b) { return (a "") == (b "") }
@@ -11,10 +11,10 @@ function same(a, b) { return (a "") == (b "") }
 function check(f,    text, n, wrong) {
     begin_answers()
     for (n = 1; (getline text < file[f]) > 0; n++) {
+        pass_line()
         wrong = fault(text)
         if (wrong != "") bad(name[f] " is not a file of answers: line " n ": " wrong)
     }
-    if (n == 1) bad(name[f] " is empty")
     wrong = fault_at_end()
     if (wrong != "") bad(name[f] " " wrong)
     if (error != "") bad(name[f] ": the trace is damaged: " error)
@@ -24,7 +24,7 @@ function check(f,    text, n, wrong) {
 # The next line of a file in line[f], its number in at[f]; "" at the end.
 function advance(f,    text) {
     line[f] = ""
-    if ((getline text < file[f]) > 0) { line[f] = text; at[f]++ }
+    if ((getline text < file[f]) > 0) { line[f] = text; at[f]++; pass_line() }
 }
 
 function is_draw(f) { return line[f] ~ /^DRAW_/ }
@@ -32,6 +32,7 @@ function is_draw(f) { return line[f] ~ /^DRAW_/ }
 function count_of(f,    part) { split(line[f], part, " "); return part[3] + 0 }
 
 function report(text) {
+    clear_told()
     if (!reported++) print "first   " name[1] "\nsecond  " name[2]
     print text
 }
@@ -108,6 +109,7 @@ function compare_others(    from, a, b) {
 function many(n, what) { return n " " what (n == 1 ? "" : "s") }
 
 function finish() {
+    clear_told()
     if (!reported) { print "no difference"; exit 0 }
     printf "%d of %s differ%s", differing, many(triangles + 0, "triangle"), (differing > 0 ? ", in " many(words, "word") : "")
     if (alone > 0) printf "; %s in one file alone", many(alone, "triangle")

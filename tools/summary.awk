@@ -75,6 +75,7 @@ function print_box(    axis) {
 }
 
 {
+    pass_line()
     is_triangle = left > 0
     wrong = fault($0)
     if (wrong != "") exit
@@ -89,6 +90,7 @@ is_triangle { triangles++; widen(); next }
 }
 
 END {
+    clear_told()
     if (wrong == "") wrong = fault_at_end()
     if (wrong != "") { print "run: answers, line " NR ": " wrong | "cat 1>&2"; exit 2 }
     printf "calls      %d\n", calls
