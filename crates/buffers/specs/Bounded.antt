@@ -1,4 +1,4 @@
--- Questions over the indices below a bound: the first that passes, and how many pass.
+-- Tests on the indices below a bound: the first index that passes, and how many pass.
 use Prim.Native.Nat.{ℕ, zero, suc, _+_}
 use mathlib.Core.Bool.{Bool, cond}
 

@@ -65,7 +65,7 @@ noted number c = putError (slotAfter number (c .error)) c
 
 -- ---- the contract
 
--- the questions that every call asks first: a sound context, and a store of 65,536 bytes where the call borrows it
+-- what is tested first in every call: a sound context, and a store of 65,536 bytes where the call borrows it
 pub record Valid (call : Call) (c : Context) (s : List ℕ) : Type 0 where
   pub sound : Sound c
   pub store : borrowsStore call ≡ true → length s ≡ storeBytes

@@ -48,17 +48,17 @@ unfolding stackStep
 taken = refl
 
 -- a deleted name stays in an array's buffer field, and is live again when it is bound again
-abbrev pub haunted : List Call
-haunted = object (buffer (bind 0x8892 5)) ∷ object (array (vertexPointer 3 0x1406 0 0)) ∷ object (buffer (delete (5 ∷ []))) ∷ []
+abbrev pub boundThenDeleted : List Call
+boundThenDeleted = object (buffer (bind 0x8892 5)) ∷ object (array (vertexPointer 3 0x1406 0 0)) ∷ object (buffer (delete (5 ∷ []))) ∷ []
 
-pub deleted-stays : after haunted .objects .arrays .vertex .buffer ≡ 5
+pub deleted-stays : after boundThenDeleted .objects .arrays .vertex .buffer ≡ 5
 unfolding arrayStep accepted objects.bindBuffer objects.liveNames count
 deleted-stays = refl
 
-pub deleted-is-gone : after haunted .objects .buffers .contents 5 ≡ none
+pub deleted-is-gone : after boundThenDeleted .objects .buffers .contents 5 ≡ none
 unfolding objects.bindBuffer objects.named objects.liveNames count objects.deleteNames objects.deleteName
 deleted-is-gone = refl
 
-pub revived : after (haunted ++ (object (buffer (bind 0x8893 5)) ∷ [])) .objects .buffers .contents 5 ≡ some []
+pub revived : after (boundThenDeleted ++ (object (buffer (bind 0x8893 5)) ∷ [])) .objects .buffers .contents 5 ≡ some []
 unfolding objects.bindBuffer objects.named objects.liveNames count objects.deleteNames objects.deleteName
 revived = refl

@@ -19,7 +19,7 @@ use Rattle.draw.specs.Triangles.{triangleCount, Triangle}
 use Rattle.draw.specs.Draw.{primitiveOf, trianglesOf, drawIn, Drawing}
 use Rattle.draw.proofs.Drawing.{count-drawn}
 
--- a question that is passed: its no has a number
+-- where the number of some tests is 0, the first of them passed: it has a nonzero number where it fails
 passed : (no : Bool) (number rest : ℕ) → (no ≡ true → number ≡ 0 → ⊥) → cond no number rest ≡ 0 → (no ≡ false) × (rest ≡ 0)
 passed true number rest h e = absurd (h refl e)
 passed false number rest h e = (refl, e)

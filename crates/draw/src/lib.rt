@@ -168,7 +168,7 @@ fn corner_vertex(
     vertex::assemble(plan, positions, colors, b0, b1, b2, b3, index)
 }
 
-// A table of corners by their index: a hint, which is asked before it is used.
+// A table of corners by their index. What it gives is only a candidate, which is tested before it is used.
 const TABLE: usize = 256;
 
 fn recalled(table: &[usize; TABLE], index: u32) -> usize {

@@ -21,7 +21,7 @@ rangeOf w = range (wordAt w 3) (wordAt w 4)
 abbrev pub elementsOf : List ℕ → Source
 elementsOf w = elements (wordAt w 3) (wordAt w 4) (wordAt w 5)
 
--- where no row has the code 0x62 is meant
+-- a code that no row has counts as 0x62
 abbrev pub sourceRows : List ℕ → List (Row Source)
 sourceRows w =
     0x60 names listOf w

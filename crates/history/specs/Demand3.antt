@@ -1,7 +1,7 @@
 -- Demand 3 (01: "Strands and fold"), whole: what is claimed of a list of calls. proofs/Demand3.antt proves it.
 --   1. the five logs of a list of calls
 --   2. the replay of the logs from fresh
---   3. a list of calls, and what it leaves; Entries.antt ties it to the functions of crate gles
+--   3. a list of calls, and what it leaves; Entries.antt shows that the functions of crate gles make such lists
 --   4. the claims
 use mathlib.Core.Bool.{cond}
 use mathlib.Core.List.{List, [], _∷_, _++_, foldl}
@@ -69,7 +69,7 @@ pub record Logs : Type 0 where
 abbrev pub logs : List Call → Logs
 logs l = record { matrices = λ which. matrixLog which MatrixMode.Modelview l; objects = objectLog l; attributes = attributeLog l }
 
--- ---- 2. the replay (01: the fold): each log from fresh by itself, by the rules; the calls' answers are not fed in
+-- ---- 2. the replay (01: the fold): each log from fresh by itself, by the rules; the calls' answers are not used
 
 abbrev pub replayMatrices : StackState → List MatrixCall → StackState
 replayMatrices t l = foldl (λ u k. stackStep k u) t l
@@ -80,7 +80,7 @@ replayObjects o l = foldl (λ p k. objectStep k p) o l
 abbrev pub replayAttributes : Attributes → List AttributeCall → Attributes
 replayAttributes a l = foldl (λ b k. attributeStep k b .attributes) a l
 
--- number and triangles of a draw, by the draw rules on the five ends
+-- number and triangles of a draw, by the draw rules on the five states that the replays end in
 abbrev pub drawReplayed : Logs → DrawCall → Drawing
 drawReplayed g d =
     drawing (λ which. replayMatrices (freshState .stacks which) (g .matrices which)) (replayObjects (freshState .objects) (g .objects))

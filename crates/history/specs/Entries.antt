@@ -1,4 +1,4 @@
--- The tie from the theorem to the code: what the contract of each function ensures is `Did` of its call, and `Drew` for a draw. `Learnt` is what the toolchain reads off a function's own `ensures`: of its arguments before, its result and its arguments after.
+-- From the theorem to the code: what the contract of each function ensures is `Did` of its call, and `Drew` for a draw. `Learnt` is what the toolchain reads off a function's own `ensures`: of its arguments before, its result and its arguments after.
 use mathlib.Core.Bool.{Bool}
 use mathlib.Core.List.{List}
 use Prim.Native.Nat.{ℕ}

@@ -10,7 +10,7 @@ pub fog-whole-part : wholePart (ofBits binary32 0x4500_0e66) ≡ 0x0800
 unfolding ofBits toUnsigned
 fog-whole-part = refl
 
--- a zero keeps no sign
+-- -0.0 becomes +0.0
 pub magnitude-of-minus-zero : magnitude (ofBits binary32 0x8000_0000) ≡ ofBits binary32 0
 unfolding ofBits magnitude
 magnitude-of-minus-zero = refl

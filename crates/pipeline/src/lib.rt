@@ -49,7 +49,7 @@ pub enum FogMode {
     Exp2,
 }
 
-// How a texture's colour joins the fragment's.
+// How a texture's colour is combined with the fragment's.
 pub enum TexEnvMode {
     Modulate,
     Replace,

@@ -17,7 +17,7 @@ use Rattle.vertex.specs.Scene.{Source, list, range, elements, DrawCall}
 use Rattle.context.specs.Calls.{BufferCall, gen, bind, delete, bufferData, bufferSubData, buffer, array, Call, matrix, mode, object, attribute, pipeline, takeError, draw}
 use Rattle.context.specs.Contract.{drawCall}
 
--- ---- the call of a record. Where no row has the code, the last code of the group is meant: `recordSizes` says which codes there are
+-- ---- the call of a record. A code that no row has counts as the last of its group: `recordSizes` says which codes there are
 
 abbrev pub rowOr : {A : Type 0} → List (Row A) → ℕ → A → A
 rowOr rows code last = Option·getD (lookup rows code) last

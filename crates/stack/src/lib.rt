@@ -8,8 +8,8 @@ pub struct Matrix {
     pub entries: [f32; 16],
 }
 
-// Puts a matrix in the place of another. Entry by entry, so that the compiler leaves what lies around the place alone: it copies two neighbours together
-// unless one of them is read or written by its numbers.
+// Puts a matrix in the place of another, entry by entry: the compiler copies two fields that lie side by side together, unless the numbers of one
+// are read or written one by one.
 pub fn replace(to: &mut [f32; 16], from: Matrix)
     ensures { λ r. ⌜ now (to .exit) ≡ from .entries ⌝ }
 {

@@ -1,4 +1,4 @@
--- Lists of calls made over and over.
+-- A list of calls, made several times.
 use mathlib.Core.List.{List, [], _++_}
 use mathlib.Core.Path.{_≡_}
 use Prim.Native.Nat.{ℕ, zero, suc}

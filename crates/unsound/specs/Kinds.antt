@@ -78,7 +78,7 @@ bufferRows k last b =
     ∷ 11 names buffersOf (b .slots) (b .next) (b .next) (b .«element_buffer»)
     ∷ []
 
--- where no row has the kind 12 is meant: the element binding to next
+-- a kind that no row has counts as 12: the element binding to next
 unfoldable pub buffersMade : ℕ → ℕ → ℕ → Buffers → Buffers
 buffersMade kind k last b = rowOr (bufferRows k last b) kind (buffersOf (b .slots) (b .next) (b .«array_buffer») (b .next))
 

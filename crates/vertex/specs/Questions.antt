@@ -1,4 +1,4 @@
--- The questions of a draw (01: "Questions at the door"), in 01's order; each answers the number of its no, or goes on.
+-- The tests of a draw (01: "Questions at the door"), in 01's order: the number of the first test that fails, or 0.
 use mathlib.Core.Bool.{Bool, not, cond, _&&_, _||_}
 use mathlib.Core.List.{List}
 use Prim.Native.Nat.{ℕ, _+_, _*_}
@@ -27,7 +27,7 @@ failingPlace s is = first (length is) (fails s is)
 abbrev pub hasVertices : ArrayPointer → Bool
 hasVertices a = a .enabled && (not (eqb (a .buffer) 0) || not (eqb (a .pointer) 0))
 
--- of all draws, before the room in the output
+-- the tests of all draws, before that of the room in the output
 unfoldable pub listNumber : Scene → ℕ → List ℕ → ℕ
 listNumber s mode is =
     cond (not (hasVertices (s .arrays .vertex))) 8
@@ -42,14 +42,14 @@ partNumber element (bytes bs) = 0
 partNumber element noBuffer = 0x0501
 partNumber element unreadable = cond (eqb element 0) 7 0x0501
 
--- of a draw whose indices lie in the element buffer or in guest memory
+-- the tests of a draw whose indices lie in the element buffer or in guest memory
 unfoldable pub elementsNumber : Scene → ℕ → ℕ → ℕ → ℕ → ℕ
 elementsNumber s element count ty pointer =
     cond (eqb (indexWidth ty) 0) 0x0500
     (cond (leb 18446744073709551616 (count * indexWidth ty)) 0x0501
     (partNumber element (indexPart s element count ty pointer)))
 
--- such a draw of no index ends with 0, whatever the mode
+-- both, by the source of the indices; a draw of the second kind without an index answers 0, whatever the mode
 abbrev pub sourceNumber : Scene → ℕ → ℕ → Source → ℕ
 sourceNumber s element mode (list is) = listNumber s mode (indicesFrom s element (list is))
 sourceNumber s element mode (range first count) = listNumber s mode (indicesFrom s element (range first count))
@@ -57,11 +57,11 @@ sourceNumber s element mode (elements count ty pointer) =
     cond (not (eqb (elementsNumber s element count ty pointer) 0)) (elementsNumber s element count ty pointer)
     (cond (eqb count 0) 0 (listNumber s mode (indicesFrom s element (elements count ty pointer))))
 
--- of the guest view and the mask, before the number n of what follows
+-- the tests of the guest view and the mask; n is the number of those that follow
 unfoldable pub viewNumber : ℕ → ℕ → ℕ → ℕ → ℕ
 viewNumber base len stages n = cond (ltb 4294967296 (base + len)) 2 (cond (leb 16 stages) 3 n)
 
--- the number of the first no before the room in the output
+-- the number of the first test that fails, before that of the room in the output
 abbrev pub validation : Scene → ℕ → ℕ → Source → ℕ
 validation s element mode source = viewNumber (s .base) (length (s .guest)) (s .stages) (sourceNumber s element mode source)
 

@@ -1,4 +1,4 @@
-// What a draw reads: its indices, the questions on them, the vertex of an index.
+// What a draw reads: its indices, the tests on them, the vertex of an index.
 use arrays::Arrays;
 use arrays::Attributes;
 use arrays::Pair;
@@ -361,7 +361,7 @@ fn has_vertices(a: ArrayPointer) -> bool
     a.pointer != 0
 }
 
-// The number of the first no before the room in the output, 0 where there is none.
+// The number of the first test that fails, 0 where all pass. The room in the output is tested after them.
 pub fn validate<'a>(
     s: Scene,
     store: &'a [u8],
@@ -391,7 +391,7 @@ pub fn validate<'a>(
     0
 }
 
-// The number of the questions on the guest view and on the mask, 0 where there is no no.
+// The number of the first test on the guest view and the mask that fails, 0 where all pass.
 pub fn view_number(base: u32, len: usize, stages: u32) -> u32
     ensures { λ r. ⌜ r ≡ viewNumber base len stages 0 ⌝ }
 {
@@ -407,7 +407,7 @@ pub fn view_number(base: u32, len: usize, stages: u32) -> u32
     0
 }
 
-// The number of the questions on indices that lie in the element buffer or in guest memory.
+// The number of the first test that fails on indices in the element buffer or in guest memory, 0 where all pass.
 pub fn stored_number<'a>(
     s: Scene,
     store: &'a [u8],

@@ -1,4 +1,4 @@
-// The guest view, its read, and the draws that take one: each function takes the view apart and calls another with its base and its bytes in its place.
+// The guest view, its read, and the draws that take one: each function calls another with the base and the bytes of the view in its place.
 use context::Context;
 use context::DrawReply;
 ghost use mathlib.Core.Path.{_≡_};
