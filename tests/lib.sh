@@ -8,14 +8,11 @@ say_version() { printf 'Beonasul %s, traces of version 1\n' "$(cat "$root/VERSIO
 
 group= child= feeder= ticker=
 
-# From here on a signal that stops the script stops its work too. What the script set for its end (trap .. EXIT) is done as well.
-stop_on_signals() {
-    local signal
-    for signal in INT TERM HUP; do
-        # shellcheck disable=SC2064
-        trap "stop_work; trap - $signal; kill -$signal $$" "$signal"
-    done
-}
+# A signal that stops the script stops its work too. What the script set for its end (trap .. EXIT) is done as well.
+for signal in INT TERM HUP; do
+    # shellcheck disable=SC2064
+    trap "stop_work; trap - $signal; kill -$signal $$" "$signal"
+done
 
 stop_work() {
     [ -z "$group" ] || kill -TERM -- "-$group" 2>/dev/null
@@ -57,6 +54,9 @@ with_ticks() {
     done
     [ -z "$part$line" ] || printf '%s%s\n' "$part" "$line"
 }
+
+# Whether to say how far the work is: on a terminal, but not beside a pager that draws on the same one.
+on_terminal() { [ -t 2 ] && [ ! -p /dev/stdout ]; }
 
 # Says once a second how far file descriptor 3 of this script, a file of $1 bytes, has been read.
 tell_reading() {
@@ -181,7 +181,7 @@ replay_trace() {
     fi
     "$replay" <&3 >"$2" &
     child=$!
-    [ ! -t 2 ] || [ "$bytes" -lt 1000000 ] || { tell_reading "$bytes" & ticker=$!; }
+    ! on_terminal || [ "$bytes" -lt 1000000 ] || { tell_reading "$bytes" & ticker=$!; }
     wait "$child"
     status=$?
     child=
