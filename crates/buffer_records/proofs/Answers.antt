@@ -20,5 +20,6 @@ pub answers-is : {k k′ : BufferCall} {c : Context} {s s1 : List ℕ} {r : Call
 answers-is {c = c} {s = s} {s1 = s1} {r = r} e a = subst (λ (k : BufferCall). Answers k c s r s1) e a
 
 -- one that has no value
-pub replied-is : {k : BufferCall} {c c1 : Context} {s s1 : List ℕ} {n : ℕ} {r : CallReply} → r ≡ replyOf n 0 c1 → Did (object (buffer k)) c s n c1 s1 → 0 ≡ bufferValue k c n → Answers k c s r s1
+pub replied-is : {k : BufferCall} {c c1 : Context} {s s1 : List ℕ} {n : ℕ} {r : CallReply}
+    → r ≡ replyOf n 0 c1 → Did (object (buffer k)) c s n c1 s1 → 0 ≡ bufferValue k c n → Answers k c s r s1
 replied-is {k = k} {c = c} {s = s} {s1 = s1} e m v = subst (λ (x : CallReply). Answers k c s x s1) (sym e) ((refl, m), v)

@@ -44,7 +44,8 @@ fn make_sub_data(c: Context, store: &mut [u8], w: &[u32], bytes: &[u8]) -> Reply
 }
 
 pub fn make_buffer(c: Context, store: &mut [u8], code: u32, w: &[u32], bytes: &[u8]) -> CallReply
-    ensures { λ r. ⌜ (r .known ≡ true) × Did (Call.object (ObjectCall.buffer (bufferOf (now (bytes .entry)) code (now (w .entry))))) c (now (store .entry)) (r .number) (r .context) (now (store .exit)) ⌝ }
+    ensures { λ r. ⌜ (r .known ≡ true)
+        × Did (Call.object (ObjectCall.buffer (bufferOf (now (bytes .entry)) code (now (w .entry))))) c (now (store .entry)) (r .number) (r .context) (now (store .exit)) ⌝ }
     ensures { λ r. ⌜ r .value ≡ bufferValue (bufferOf (now (bytes .entry)) code (now (w .entry))) c (r .number) ⌝ }
 {
     match code {

@@ -25,11 +25,13 @@ module _ (w : List ℕ) (out : List Float) (d : DrawWords) (e : d ≡ drawWords 
   pub room-is : d .room ≡ length (take (d .room) out)
   room-is = sym (length-take-le (d .room) out room-fits)
 
-  pub drew-in : (bytes guest : List ℕ) → guest ≡ bytesAt bytes (longAt w 5) (longAt w 7) → (source source′ : Source) → source ≡ source′ → {c : Context} {s : List ℕ} {r : DrawReply} {part : List Float}
+  pub drew-in : (bytes guest : List ℕ) → guest ≡ bytesAt bytes (longAt w 5) (longAt w 7) → (source source′ : Source) → source ≡ source′
+      → {c : Context} {s : List ℕ} {r : DrawReply} {part : List Float}
       → DrawDid (drawCall source (d .mode) (d .stages) (d .base) guest (length (take (d .room) out))) c s r (take (d .room) out) part
       → DrewIn (drawOfWords bytes (length out) source′ w) c s out r (part ++ drop (d .room) out)
   drew-in bytes guest g source source′ q {c = c} {s = s} {r = r} {part = part} m =
-      subst (λ (x : DrawWords). DrewIn (drawCall source′ (x .mode) (x .stages) (x .base) (bytesAt bytes (longAt w 5) (longAt w 7)) (x .room)) c s out r (part ++ drop (d .room) out)) e
+      let there = bytesAt bytes (longAt w 5) (longAt w 7) in
+      subst (λ (x : DrawWords). DrewIn (drawCall source′ (x .mode) (x .stages) (x .base) there (x .room)) c s out r (part ++ drop (d .room) out)) e
       (record {
         part = part;
         did = subst (λ (k : DrawCall). DrawDid k c s r (take (d .room) out) part) (λ i. drawCall (q i) (d .mode) (d .stages) (d .base) (g i) (sym room-is i)) m;

@@ -38,7 +38,9 @@ fn make_list_draw<'a>(
     bytes: &'a [u8],
     out: &mut [f32],
 ) -> DrawReply
-    ensures { λ r. ⌜ DrewIn (drawOfWords (now (bytes .entry)) (length (now (out .entry))) (listOf (now (w .entry))) (now (w .entry))) c (now (store .entry)) (now (out .entry)) r (now (out .exit)) ⌝ }
+    ensures { λ r. ⌜ DrewIn
+        (drawOfWords (now (bytes .entry)) (length (now (out .entry))) (listOf (now (w .entry))) (now (w .entry)))
+        c (now (store .entry)) (now (out .entry)) r (now (out .exit)) ⌝ }
 {
     let d = draw_words(w, out.len());
     let guest = words::part_at(bytes, w, 5);
@@ -63,7 +65,9 @@ fn make_range_draw<'a>(
     bytes: &'a [u8],
     out: &mut [f32],
 ) -> DrawReply
-    ensures { λ r. ⌜ DrewIn (drawOfWords (now (bytes .entry)) (length (now (out .entry))) (rangeOf (now (w .entry))) (now (w .entry))) c (now (store .entry)) (now (out .entry)) r (now (out .exit)) ⌝ }
+    ensures { λ r. ⌜ DrewIn
+        (drawOfWords (now (bytes .entry)) (length (now (out .entry))) (rangeOf (now (w .entry))) (now (w .entry)))
+        c (now (store .entry)) (now (out .entry)) r (now (out .exit)) ⌝ }
 {
     let d = draw_words(w, out.len());
     let guest = words::part_at(bytes, w, 5);
@@ -90,7 +94,9 @@ fn make_stored_draw<'a>(
     bytes: &'a [u8],
     out: &mut [f32],
 ) -> DrawReply
-    ensures { λ r. ⌜ DrewIn (drawOfWords (now (bytes .entry)) (length (now (out .entry))) (elementsOf (now (w .entry))) (now (w .entry))) c (now (store .entry)) (now (out .entry)) r (now (out .exit)) ⌝ }
+    ensures { λ r. ⌜ DrewIn
+        (drawOfWords (now (bytes .entry)) (length (now (out .entry))) (elementsOf (now (w .entry))) (now (w .entry)))
+        c (now (store .entry)) (now (out .entry)) r (now (out .exit)) ⌝ }
 {
     let d = draw_words(w, out.len());
     let guest = words::part_at(bytes, w, 5);
@@ -120,7 +126,9 @@ pub fn make_draw<'a>(
     bytes: &'a [u8],
     out: &mut [f32],
 ) -> DrawReply
-    ensures { λ r. ⌜ DrewIn (drawOfWords (now (bytes .entry)) (length (now (out .entry))) (sourceOf code (now (w .entry))) (now (w .entry))) c (now (store .entry)) (now (out .entry)) r (now (out .exit)) ⌝ }
+    ensures { λ r. ⌜ DrewIn
+        (drawOfWords (now (bytes .entry)) (length (now (out .entry))) (sourceOf code (now (w .entry))) (now (w .entry)))
+        c (now (store .entry)) (now (out .entry)) r (now (out .exit)) ⌝ }
 {
     match code {
         0x60 => make_list_draw(c, store, w, bytes, out),

@@ -44,7 +44,8 @@ reached (then {l = l} {k = k} h d) =
 abbrev draws : State → DrawCall → Drawing
 draws s d = drawing (s .stacks) (s .objects) (s .attributes) d
 
-replays : {l : List Call} {c : Context} {s : List ℕ} {d : DrawCall} {out out1 : List Float} {r : DrawReply} → History l c s → DrawDid d c s r out out1 → Draws (drawReplayed (logs l) d) (drawnOf r) out out1
+replays : {l : List Call} {c : Context} {s : List ℕ} {d : DrawCall} {out out1 : List Float} {r : DrawReply}
+    → History l c s → DrawDid d c s r out out1 → Draws (drawReplayed (logs l) d) (drawnOf r) out out1
 replays {l = l} {c = c} {s = s} {d = d} {out = out} {out1 = out1} {r = r} h m =
     let g = reached h in
     let e : draws (view c s) d ≡ drawReplayed (logs l) d = ap (λ t. draws t d) (g .state) ∙ run-draw l d in
@@ -71,8 +72,8 @@ counts-of g d r out out1 w =
       refused = refused;
       empty = λ z. none (r .number) refl z;
       modes = λ e. accepted e .1;
-      lists = λ e q. accepted e .0 ∙ ap (λ (m : ℕ). triangleCount (primitiveOf m) (indexTotal (d .source))) q;
-      strips-and-fans = λ e q. accepted e .0 ∙ ⊎-elim (λ f. ap (λ (m : ℕ). triangleCount (primitiveOf m) (indexTotal (d .source))) f) (λ f. ap (λ (m : ℕ). triangleCount (primitiveOf m) (indexTotal (d .source))) f) q;
+      lists = λ e q. in-mode e q;
+      strips-and-fans = λ e q. ⊎-elim (in-mode e) (in-mode e) q;
     }
   where
     s : Scene
@@ -84,8 +85,15 @@ counts-of g d r out out1 w =
     accepted : r .number ≡ 0 → (r .count ≡ triangleCount (primitiveOf (d .mode)) (indexTotal (d .source))) × (0 < indexTotal (d .source) → (4 ≤ d .mode) × (d .mode ≤ 6))
     accepted e = let a = accepted-count s (g .element) (d .mode) (d .source) (d .room) (sym (w .number) ∙ e) in (w .count ∙ a .0, a .1)
 
+    -- the count, where the mode is known
+    in-mode : {mode : ℕ} → r .number ≡ 0 → d .mode ≡ mode → r .count ≡ triangleCount (primitiveOf mode) (indexTotal (d .source))
+    in-mode e q = accepted e .0 ∙ ap (λ (m : ℕ). triangleCount (primitiveOf m) (indexTotal (d .source))) q
+
     none : (n : ℕ) → r .number ≡ n → indexTotal (d .source) ≡ 0 → r .count ≡ 0
-    none zero e z = let c : r .count ≤ indexTotal (d .source) = subst (λ (k : ℕ). k ≤ indexTotal (d .source)) (sym (accepted e .0)) (count-le (primitiveOf (d .mode)) (indexTotal (d .source))) in omega arith
+    none zero e z =
+        let n = indexTotal (d .source) in
+        let c : r .count ≤ n = subst (λ (k : ℕ). k ≤ n) (sym (accepted e .0)) (count-le (primitiveOf (d .mode)) n) in
+        omega arith
     none (suc n) e z = refused (λ f. absurd (omega arith))
 
 pub demand-3 : Demand3

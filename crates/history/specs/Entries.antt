@@ -1,4 +1,9 @@
+<<<<<<< HEAD
 -- From the theorem to the code: what the contract of each function ensures is `Did` of its call, and `Drew` for a draw. `Learnt` is what the toolchain reads off a function's own `ensures`: of its arguments before, its result and its arguments after.
+=======
+-- The tie from the theorem to the code: what the contract of each function ensures is `Did` of its call, and `Drew` for a draw.
+-- `Learnt` is what the toolchain reads off a function's own `ensures`: of its arguments before, its result and its arguments after.
+>>>>>>> 5d85cb28cfab5986941fa560a6b981e73bbdcdbd
 use mathlib.Core.Bool.{Bool}
 use mathlib.Core.List.{List}
 use Prim.Native.Nat.{ℕ}
@@ -176,13 +181,17 @@ pub record Entries : Type 0 where
       → Of take-error-promise.Learnt (c, tt) r
       → Does Call.takeError c (r .number) (r .context)
   pub draw-elements : (κs : Lfts 3) (c : Context) (store guest indices : RefT (List ℕ)) (out : RefT (List Float)) (out1 : List Float) (base code stages : ℕ) (r : DrawReply)
-      → draw-elements-promise.Learnt κs (c, (store, (base, (guest, (code, (indices, (stages, (out, tt)))))))) r (c, (store, (base, (guest, (code, (indices, (stages, (at-last out out1, tt))))))))
+      → draw-elements-promise.Learnt κs (c, (store, (base, (guest, (code, (indices, (stages, (out, tt)))))))) r
+      (c, (store, (base, (guest, (code, (indices, (stages, (at-last out out1, tt))))))))
       → DrawDid (drawCall (Source.list (now indices)) code stages base (now guest) (length (now out))) c (now store) r (now out) out1
   pub draw-arrays : (κs : Lfts 2) (c : Context) (store guest : RefT (List ℕ)) (out : RefT (List Float)) (out1 : List Float) (base code first count stages : ℕ) (r : DrawReply)
-      → draw-arrays-promise.Learnt κs (c, (store, (base, (guest, (code, (first, (count, (stages, (out, tt))))))))) r (c, (store, (base, (guest, (code, (first, (count, (stages, (at-last out out1, tt)))))))))
+      → draw-arrays-promise.Learnt κs (c, (store, (base, (guest, (code, (first, (count, (stages, (out, tt))))))))) r
+      (c, (store, (base, (guest, (code, (first, (count, (stages, (at-last out out1, tt)))))))))
       → DrawDid (drawCall (Source.range first count) code stages base (now guest) (length (now out))) c (now store) r (now out) out1
-  pub draw-elements-from-guest : (κs : Lfts 2) (c : Context) (store guest : RefT (List ℕ)) (out : RefT (List Float)) (out1 : List Float) (base code count ty pointer stages : ℕ) (r : DrawReply)
-      → draw-elements-from-guest-promise.Learnt κs (c, (store, (base, (guest, (code, (count, (ty, (pointer, (stages, (out, tt)))))))))) r (c, (store, (base, (guest, (code, (count, (ty, (pointer, (stages, (at-last out out1, tt))))))))))
+  pub draw-elements-from-guest : (κs : Lfts 2) (c : Context) (store guest : RefT (List ℕ)) (out : RefT (List Float)) (out1 : List Float)
+      (base code count ty pointer stages : ℕ) (r : DrawReply)
+      → draw-elements-from-guest-promise.Learnt κs (c, (store, (base, (guest, (code, (count, (ty, (pointer, (stages, (out, tt)))))))))) r
+      (c, (store, (base, (guest, (code, (count, (ty, (pointer, (stages, (at-last out out1, tt))))))))))
       → DrawDid (drawCall (Source.elements count ty pointer) code stages base (now guest) (length (now out))) c (now store) r (now out) out1
 
 pub entries : Entries

@@ -29,6 +29,7 @@ all-kept n w {r = r} p h =
     record { fault = ap (faultOf (r .code)) e ∙ h .fault; size = refl }
 
 -- a record of n words that was read whole, and its words
-pub read-from : (n : ℕ) (bytes w w1 : List ℕ) {r : Header} {part : List ℕ} → 4 * n ≤ length bytes → w1 ≡ filled (wordOf bytes) n w → part ≡ take n w1 → Kept r n part → ReadFrom r bytes w w1
+pub read-from : (n : ℕ) (bytes w w1 : List ℕ) {r : Header} {part : List ℕ}
+    → 4 * n ≤ length bytes → w1 ≡ filled (wordOf bytes) n w → part ≡ take n w1 → Kept r n part → ReadFrom r bytes w w1
 read-from n bytes w w1 {r = r} h e p k =
     record { kept = all-kept n w1 p k; whole = omega (arith, k .size); words = e ∙ ap (λ m. filled (wordOf bytes) m w) (sym (k .size)) }

@@ -22,7 +22,8 @@ unfolding tabulate
 tabulate-same f g zero h = refl
 tabulate-same f g (suc n) h = λ t. tabulate-same f g n (λ i l. h i (omega arith)) t ++ (h n (omega arith) t ∷ [])
 
-pub words-read : (bytes w : List ℕ) (n : ℕ) {part w1 : List ℕ} → 4 * n ≤ length bytes → part ≡ bytesAt bytes 0 (4 * n) → w1 ≡ filled (wordOf part) (length part / 4) w → w1 ≡ filled (wordOf bytes) n w
+pub words-read : (bytes w : List ℕ) (n : ℕ) {part w1 : List ℕ}
+    → 4 * n ≤ length bytes → part ≡ bytesAt bytes 0 (4 * n) → w1 ≡ filled (wordOf part) (length part / 4) w → w1 ≡ filled (wordOf bytes) n w
 words-read bytes w n {part = part} h e r =
     let size : length part / 4 ≡ n = omega (arith, ap length e, length-take-le (4 * n) bytes h) in
     let same : tabulate (wordOf part) (min n (length w)) ≡ tabulate (wordOf bytes) (min n (length w)) =

@@ -10,7 +10,8 @@ use Rattle.buffers.specs.Objects.{genFirst}
 use Rattle.vertex.specs.Scene.{DrawCall}
 use Rattle.context.specs.declared.Context.{Context}
 use Rattle.context.specs.declared.DrawReply.{DrawReply}
-use Rattle.context.specs.Calls.{BufferCall, gen, bind, delete, bufferData, bufferSubData, ObjectCall, buffer, array, Call, matrix, mode, object, attribute, pipeline, takeError, draw}
+use Rattle.context.specs.Calls.{BufferCall, gen, bind, delete, bufferData, bufferSubData, ObjectCall, buffer, array}
+use Rattle.context.specs.Calls.{Call, matrix, mode, object, attribute, pipeline, takeError, draw}
 use Rattle.context.specs.Rules.{errorCode}
 use Rattle.context.specs.Contract.{Did, Does, drawReply}
 use Rattle.history.specs.Demand3.{DrawDid}

@@ -89,7 +89,9 @@ fn make_pipeline(c: Context, code: u32, a: u32, b: u32, f: [f32; 4]) -> Reply
 // ---- the same, from the words of a record
 
 pub fn array_record(c: Context, code: u32, w: &[u32]) -> Reply
-    ensures { λ r. ⌜ Does (Call.object (ObjectCall.array (arrayOf code (wordAt (now (w .entry)) 0) (wordAt (now (w .entry)) 1) (wordAt (now (w .entry)) 2) (wordAt (now (w .entry)) 3)))) c (r .number) (r .context) ⌝ }
+    ensures { λ r. ⌜ Does
+        (Call.object (ObjectCall.array (arrayOf code (wordAt (now (w .entry)) 0) (wordAt (now (w .entry)) 1) (wordAt (now (w .entry)) 2) (wordAt (now (w .entry)) 3))))
+        c (r .number) (r .context) ⌝ }
 {
     let a = words::word_at(w, 0);
     let b = words::word_at(w, 1);

@@ -32,7 +32,8 @@ module _ (s0 g0 : List ℕ) (o0 : List Float) where
   pub starts : {c : Context} {v : Borrowed} {s : MatrixStack} → Fresh c → v ≡ freshBorrowed → s ≡ freshStack → Replayed s0 g0 o0 (held c v (replicate stackSlots s) s0 g0 o0)
   starts f ev es = rw (ev, es) (started f)
 
-  pub follows : {c c1 : Context} {v v1 : Borrowed} {stacks stacks1 : List MatrixStack} {store guest store1 guest1 : List ℕ} {out out1 : List Float} {h : Header} {bytes w w1 : List ℕ} (words : List ℕ)
+  pub follows : {c c1 : Context} {v v1 : Borrowed} {stacks stacks1 : List MatrixStack} {store guest store1 guest1 : List ℕ} {out out1 : List Float}
+      {h : Header} {bytes w w1 : List ℕ} (words : List ℕ)
       → Replayed s0 g0 o0 (held c v stacks store guest out) → Comes c v h bytes w w1 → words ≡ take (h .n) w1 → Done c v (h .code) words bytes store guest out c1 store1 guest1 out1
       → v1 ≡ borrowedAfter (h .code) (wordAt words 0) (wordAt words 1) v → stacks1 ≡ stacksAfter (h .code) words stacks → Replayed s0 g0 o0 (held c1 v1 stacks1 store1 guest1 out1)
   follows words r k e d ev es = rw (ev, es, e) (followed r k (rw e at d))

@@ -35,12 +35,14 @@ pub record Held : Type 0 where
 abbrev pub held : Context → Borrowed → List MatrixStack → List ℕ → List ℕ → List Float → Held
 held c v stacks store guest out = record { context = c; borrowed = v; stacks = stacks; store = store; guest = guest; output = out }
 
--- What is held after records from the start on, over areas as they were given. Each record keeps the format, may come where it comes, and is done on what the one before left. Its words are the first of the area w1.
+-- What is held after records from the start on, over areas as they were given.
+-- Each record keeps the format, may come where it comes, and is done on what the one before left. Its words are the first of the area w1.
 pub data Replayed (s0 g0 : List ℕ) (o0 : List Float) : Held → Type 0 where
   started : {c : Context} → Fresh c → Replayed s0 g0 o0 (held c freshBorrowed (replicate stackSlots freshStack) s0 g0 o0)
   followed : {c c1 : Context} {v : Borrowed} {stacks : List MatrixStack} {store guest store1 guest1 : List ℕ} {out out1 : List Float} {h : Header} {bytes w w1 : List ℕ}
       → Replayed s0 g0 o0 (held c v stacks store guest out) → Comes c v h bytes w w1 → Done c v (h .code) (take (h .n) w1) bytes store guest out c1 store1 guest1 out1
-      → Replayed s0 g0 o0 (held c1 (borrowedAfter (h .code) (wordAt (take (h .n) w1) 0) (wordAt (take (h .n) w1) 1) v) (stacksAfter (h .code) (take (h .n) w1) stacks) store1 guest1 out1)
+      → Replayed s0 g0 o0
+      (held c1 (borrowedAfter (h .code) (wordAt (take (h .n) w1) 0) (wordAt (take (h .n) w1) 1) v) (stacksAfter (h .code) (take (h .n) w1) stacks) store1 guest1 out1)
 
 -- the areas in the end
 pub record Replays (s0 g0 : List ℕ) (o0 : List Float) (s1 g1 : List ℕ) (o1 : List Float) : Type 0 where

@@ -29,7 +29,9 @@ use Rattle.history.specs.Demand3.{History}
 use Rattle.runner.specs.declared.RunReply.{RunReply}
 use Rattle.runner.specs.Run.{outputFrom, Runs}
 use Rattle.runner.specs.Lists.{recordLength, firstCall, onward, decodeTo, decode}
-use Rattle.runner.specs.Encode.{Argument, Encoded, u32, u64, bool, f32, f32s, u32s, u8s, argumentWords, argumentBytes, wordsOf, borrowedBy, matrixRecord, bufferRecord, arrayRecord, attributeRecord, pipelineRecord, drawRecord, longWords, recordOf, callWords, borrowed, encodeFrom, encode, bytesOf, All, IsWord, IsByte, IsFloat, InType, Encodable}
+use Rattle.runner.specs.Encode.{Argument, Encoded, u32, u64, bool, f32, f32s, u32s, u8s, argumentWords, argumentBytes, longWords, wordsOf, borrowedBy}
+use Rattle.runner.specs.Encode.{matrixRecord, bufferRecord, arrayRecord, attributeRecord, pipelineRecord, drawRecord, recordOf}
+use Rattle.runner.specs.Encode.{callWords, borrowed, encodeFrom, encode, bytesOf, All, IsWord, IsByte, IsFloat, InType, Encodable}
 
 -- ---- arguments read back
 
@@ -68,7 +70,8 @@ module _ (n : ℕ) (l : List Float) (h : InType (f32s n l)) where
       rw append-nil (floats-in 0 n w (omega arith) ∙ ap (map (ofBits binary32)) (take-all n w (omega arith)) ∙ floats-are l (h .1))
 
 -- borrowed bytes, where they lie at a place
-part-is : (area : List ℕ) (place : ℕ) (b : List ℕ) → bytesAt area place (length (b ++ [])) ≡ b ++ [] → bytesAt area (long (place % 2 ^ 32) (place / 2 ^ 32)) (long (length b % 2 ^ 32) (length b / 2 ^ 32)) ≡ b
+part-is : (area : List ℕ) (place : ℕ) (b : List ℕ) → bytesAt area place (length (b ++ [])) ≡ b ++ []
+    → bytesAt area (long (place % 2 ^ 32) (place / 2 ^ 32)) (long (length b % 2 ^ 32) (length b / 2 ^ 32)) ≡ b
 part-is area place b h = rw (long-is place, long-is (length b)) (rw append-nil at h)
 
 -- ---- a record read back, where the bytes of its call lie at a place of an area and an output of `room` f32 is lent
@@ -145,7 +148,9 @@ module _ (area : List ℕ) (room place : ℕ) where
 
     draw-read : (s : Source) → Lies (drawRecord (drawCall s m st b g n) .arguments) → ReadAs (drawRecord (drawCall s m st b g n)) (draw (drawCall s m st b g n))
     unfolding drawRecord wordsOf borrowedBy isRecord callOf sourceOf
-    draw-read (list indices) p = (list-record (wordsOf place (drawRecord (drawCall (list indices) m st b g n) .arguments)) (omega arith), λ i. draw (drawCall (list (append-nil indices i)) m st b (part-is area place g p i) (room-is i)))
+    draw-read (list indices) p =
+        let w = wordsOf place (drawRecord (drawCall (list indices) m st b g n) .arguments) in
+        (list-record w (omega arith), λ i. draw (drawCall (list (append-nil indices i)) m st b (part-is area place g p i) (room-is i)))
     draw-read (range first count) p = (refl, λ i. draw (drawCall (range first count) m st b (part-is area place g p i) (room-is i)))
     draw-read (elements count ty pointer) p = (refl, λ i. draw (drawCall (elements count ty pointer) m st b (part-is area place g p i) (room-is i)))
 
@@ -190,8 +195,10 @@ module _ (room : ℕ) where
       let w = callWords (length before) k in
       let rest = encodeFrom (length before + length b) l in
       let r = call-read area room (length before) k hk (ap (take (length b)) (drop-append-seam before (b ++ bytesOf l)) ∙ take-append-seam b (bytesOf l)) in
-      ap (λ o. onward o (λ j. j ∷ decodeTo n area room (drop (recordLength (joined (recordOf k .code) w rest)) (joined (recordOf k .code) w rest))) []) (joined-call (recordOf k .code) w rest area room (r .0) (r .1))
-      ∙ ap (λ (t : List ℕ). k ∷ decodeTo n area room t) (joined-rest (recordOf k .code) w rest)
+      let code = recordOf k .code in
+      let all = joined code w rest in
+      ap (λ o. onward o (λ j. j ∷ decodeTo n area room (drop (recordLength all) all)) []) (joined-call code w rest area room (r .0) (r .1))
+      ∙ ap (λ (t : List ℕ). k ∷ decodeTo n area room t) (joined-rest code w rest)
       ∙ (λ i. k ∷ decodeTo n (sym (append-assoc before b (bytesOf l)) i) room (encodeFrom (sym (length-append before b) i) l))
       ∙ ap (λ (t : List Call). k ∷ t) (decodes-from n (before ++ b) l hl (omega arith))
 
@@ -290,7 +297,8 @@ module _ (room : ℕ) where
         record-code (recordOf k .code) (length (callWords 0 k)) (call-read b room 0 k hk (take-length b) .0),
         (
           subst IsWord (sym (words-length place (recordOf k .arguments))) (hk .short),
-          all-append IsWord (callWords place k) (encodeFrom (place + length b) l) (words-of place (recordOf k .arguments) (omega arith) (hk .typed)) (encoded-from (place + length b) l hl q),
+          all-append IsWord (callWords place k) (encodeFrom (place + length b) l)
+              (words-of place (recordOf k .arguments) (omega arith) (hk .typed)) (encoded-from (place + length b) l hl q),
         ),
       )
 
@@ -305,7 +313,8 @@ module _ (room : ℕ) where
 
 -- ---- what `run` leaves of an encoded list is what the list leaves
 
-pub run-encoded : {l : List Call} {s s1 : List ℕ} {out out1 : List Float} {r : RunReply} → All (Encodable (length out)) l → length s ≡ storeBytes → Runs (encode l) (bytesOf l) s out r s1 out1
+pub run-encoded : {l : List Call} {s s1 : List ℕ} {out out1 : List Float} {r : RunReply}
+    → All (Encodable (length out)) l → length s ≡ storeBytes → Runs (encode l) (bytesOf l) s out r s1 out1
     → History l (r .context) s1 × (out1 ≡ outputFrom [] l out)
 run-encoded {l = l} {s1 = s1} {out = out} {r = r} h e p =
     let d = decodes (length out) l h in

@@ -39,7 +39,8 @@ module _ (words : List ℕ) (place size : ℕ) (e : size ≡ recordLength (drop 
   pub record-is : (size ≡ 0 → ⊥) → (size ≡ 2 + wordAt (drop place words) 1) × (2 + wordAt (drop place words) 1 ≤ length (drop place words))
   record-is n = go (leb (2 + wordAt (drop place words) 1) (length (drop place words))) refl e
     where
-      go : (b : Bool) → leb (2 + wordAt (drop place words) 1) (length (drop place words)) ≡ b → size ≡ cond b (2 + wordAt (drop place words) 1) 0 → (size ≡ 2 + wordAt (drop place words) 1) × (2 + wordAt (drop place words) 1 ≤ length (drop place words))
+      go : (b : Bool) → leb (2 + wordAt (drop place words) 1) (length (drop place words)) ≡ b → size ≡ cond b (2 + wordAt (drop place words) 1) 0
+          → (size ≡ 2 + wordAt (drop place words) 1) × (2 + wordAt (drop place words) 1 ≤ length (drop place words))
       go true f q = (q, leb-true _ _ f)
       go false f q = absurd (n q)
 
@@ -51,13 +52,15 @@ module _ (words : List ℕ) (place size : ℕ) (e : size ≡ recordLength (drop 
     unfolding firstCall
     no-record z = rw (eq-eqb (recordLength (drop place words)) 0 (sym e ∙ z))
 
-    pub a-record : (size ≡ 0 → ⊥) → (code : ℕ) → code ≡ wordAt words place → recordCall bytes room code (take (place + size - (place + 2)) (drop (place + 2) words)) ≡ firstCall bytes room (drop place words)
+    pub a-record : (size ≡ 0 → ⊥) → (code : ℕ) → code ≡ wordAt words place
+        → recordCall bytes room code (take (place + size - (place + 2)) (drop (place + 2) words)) ≡ firstCall bytes room (drop place words)
     unfolding firstCall
     a-record n code ec =
         let r = record-is n in
         let q : place + size - (place + 2) ≡ wordAt (drop place words) 1 = omega (arith, r .0) in
         let k : wordAt (drop place words) 0 ≡ code = getD-drop place words 0 0 ∙ ap (λ (i : ℕ). wordAt words i) (add-zero place) ∙ sym ec in
-        rw (ne-eqb (recordLength (drop place words)) 0 (λ z. n (e ∙ z)), k, drop-drop 2 place words) (ap (λ (m : ℕ). recordCall bytes room code (take m (drop (place + 2) words))) q)
+        rw (ne-eqb (recordLength (drop place words)) 0 (λ z. n (e ∙ z)), k, drop-drop 2 place words)
+        (ap (λ (m : ℕ). recordCall bytes room code (take m (drop (place + 2) words))) q)
 
 -- ---- the next record
 
@@ -70,7 +73,8 @@ length-zero l h = go (leb (2 + wordAt l 1) (length l)) h
     go false k = refl
 
 -- words that are no record's have no call
-not-a-record : (words : List ℕ) (place : ℕ) (bytes : List ℕ) (room : ℕ) → 2 ≤ recordLength (drop place words) → isRecord (wordAt (drop place words) 0) (recordLength (drop place words) - 2) ≡ false → firstCall bytes room (drop place words) ≡ none
+not-a-record : (words : List ℕ) (place : ℕ) (bytes : List ℕ) (room : ℕ)
+    → 2 ≤ recordLength (drop place words) → isRecord (wordAt (drop place words) 0) (recordLength (drop place words) - 2) ≡ false → firstCall bytes room (drop place words) ≡ none
 unfolding firstCall
 not-a-record words place bytes room h f =
     let l = drop place words in
@@ -116,18 +120,22 @@ module _ (words bytes : List ℕ) (place size room : ℕ) (e : size ≡ nextSize
 
   next-is : (size ≡ 0 → ⊥) → (size ≡ recordLength rest) × (2 ≤ recordLength rest) × (isRecord (wordAt rest 0) (recordLength rest - 2) ≡ true)
   unfolding nextSize
-  next-is n = let r = size-cases (recordLength rest) (ltb (recordLength rest) 2) (isRecord (wordAt rest 0) (recordLength rest - 2)) size e n in (r .0, ltb-false (recordLength rest) 2 (r .1), r .2)
+  next-is n =
+      let r = size-cases (recordLength rest) (ltb (recordLength rest) 2) (isRecord (wordAt rest 0) (recordLength rest - 2)) size e n in
+      (r .0, ltb-false (recordLength rest) 2 (r .1), r .2)
 
   pub next-inside : (size ≡ 0 → ⊥) → (2 ≤ size) × (place + size ≤ length words)
   next-inside n = record-inside words place size (next-is n .0) n
 
-  pub next-some : (size ≡ 0 → ⊥) → (code : ℕ) → code ≡ wordAt words place → firstCall bytes room rest ≡ some (callOf bytes room code (take (place + size - (place + 2)) (drop (place + 2) words)))
+  pub next-some : (size ≡ 0 → ⊥) → (code : ℕ) → code ≡ wordAt words place
+      → firstCall bytes room rest ≡ some (callOf bytes room code (take (place + size - (place + 2)) (drop (place + 2) words)))
   next-some n code ec =
       let r = next-is n in
       let inside = next-inside n in
       let w = take (place + size - (place + 2)) (drop (place + 2) words) in
       let k : wordAt rest 0 ≡ code = getD-drop place words 0 0 ∙ ap (λ (i : ℕ). wordAt words i) (add-zero place) ∙ sym ec in
-      let long : recordLength rest - 2 ≡ length w = omega (arith, r .0, inside .0, inside .1, length-take (place + size - (place + 2)) (drop (place + 2) words), length-drop (place + 2) words) in
+      let taken = length-take (place + size - (place + 2)) (drop (place + 2) words) in
+      let long : recordLength rest - 2 ≡ length w = omega (arith, r .0, inside .0, inside .1, taken, length-drop (place + 2) words) in
       let is : isRecord code (length w) ≡ true = (λ i. isRecord (sym k i) (sym long i)) ∙ r .2 in
       sym (a-record words place size (r .0) bytes room n code ec) ∙ ap (λ b. cond b (some (callOf bytes room code w)) none) is
 
@@ -138,7 +146,8 @@ module _ (words bytes : List ℕ) (place size room : ℕ) (e : size ≡ nextSize
   pub next-none : size ≡ 0 → firstCall bytes room rest ≡ none
   next-none z = go (ltb (recordLength rest) 2) (isRecord (wordAt rest 0) (recordLength rest - 2)) refl refl size-is
     where
-      go : (b k : Bool) → ltb (recordLength rest) 2 ≡ b → isRecord (wordAt rest 0) (recordLength rest - 2) ≡ k → size ≡ cond b 0 (cond k (recordLength rest) 0) → firstCall bytes room rest ≡ none
+      go : (b k : Bool) → ltb (recordLength rest) 2 ≡ b → isRecord (wordAt rest 0) (recordLength rest - 2) ≡ k
+          → size ≡ cond b 0 (cond k (recordLength rest) 0) → firstCall bytes room rest ≡ none
       go true k f g q = sym (no-record words place (recordLength rest) refl bytes room (length-zero rest (ltb-true (recordLength rest) 2 f)))
       go false true f g q = absurd (omega (arith, ltb-false (recordLength rest) 2 f))
       go false false f g q = not-a-record words place bytes room (ltb-false (recordLength rest) 2 f) g
@@ -148,10 +157,12 @@ module _ (words bytes : List ℕ) (place size room : ℕ) (e : size ≡ nextSize
 -- triangles in the first f32 of an output are triangles in the output
 within : (ts : List Triangle) (room : ℕ) (out : List Float) → 51 * length ts ≤ length (take room out) → outputOf ts (take room out) ++ drop room out ≡ outputOf ts out
 within ts room out h =
-    append-assoc (wordsOf ts) (drop (51 * length ts) (take room out)) (drop room out)
-    ∙ ap (λ (l : List Float). wordsOf ts ++ l) (sym (drop-append-le (51 * length ts) (take room out) (drop room out) h) ∙ ap (λ (l : List Float). drop (51 * length ts) l) (take-append-drop room out))
+    let n = 51 * length ts in
+    append-assoc (wordsOf ts) (drop n (take room out)) (drop room out)
+    ∙ ap (λ (l : List Float). wordsOf ts ++ l) (sym (drop-append-le n (take room out) (drop room out) h) ∙ ap (λ (l : List Float). drop n l) (take-append-drop room out))
 
-pub output-is : {l : List Call} {c c1 : Context} {s s1 : List ℕ} {out out1 : List Float} {n value : ℕ} {k : Call} → History l c s → Performed c s out n value c1 s1 out1 k → out1 ≡ outputAfter (logs l) k out
+pub output-is : {l : List Call} {c c1 : Context} {s s1 : List ℕ} {out out1 : List Float} {n value : ℕ} {k : Call}
+    → History l c s → Performed c s out n value c1 s1 out1 k → out1 ≡ outputAfter (logs l) k out
 output-is {l = l} {out = out} {out1 = out1} {k = k} h (called m f v e) = go k f
   where
     go : (j : Call) → isDraw j ≡ false → out1 ≡ outputAfter (logs l) j out
@@ -164,8 +175,10 @@ output-is {l = l} {out = out} {out1 = out1} {k = k} h (called m f v e) = go k f
     go (draw d) f = absurd (true≢false f)
 output-is {l = l} {out = out} h (drew {d = d} m e) =
     let w = demand-3 .replays h (m .did) in
+    let ts = drawReplayed (logs l) d .triangles in
+    let fits = subst (λ (k : ℕ). 51 * length ts ≤ k) (sym (length-take-le (d .room) out (m .room))) (drawn-fits _ _ _ _ _) in
     m .output ∙ ap (λ (p : List Float). p ++ drop (d .room) out) (w .output)
-    ∙ within (drawReplayed (logs l) d .triangles) (d .room) out (subst (λ (k : ℕ). 51 * length (drawReplayed (logs l) d .triangles) ≤ k) (sym (length-take-le (d .room) out (m .room))) (drawn-fits _ _ _ _ _))
+    ∙ within ts (d .room) out fits
 
 -- ---- the loop over records
 
@@ -180,7 +193,8 @@ Stepped c s out k c1 s1 out1 = Changes c s out c1 s1 out1 k × (length s1 ≡ le
 pub stayed : {c c1 : Context} {s : List ℕ} {out : List Float} {k : Call} → Changes c s out c1 s out k → Stepped c s out k c1 s out
 stayed p = (p, refl, refl)
 
-pub joined : {c c1 c2 : Context} {s s1 s2 : List ℕ} {out out1 out2 : List Float} {k : Call} → Stepped c s out k c1 s1 out1 → s2 ≡ s1 → out2 ≡ out1 → c2 ≡ c1 → Stepped c s out k c2 s2 out2
+pub joined : {c c1 c2 : Context} {s s1 s2 : List ℕ} {out out1 out2 : List Float} {k : Call}
+    → Stepped c s out k c1 s1 out1 → s2 ≡ s1 → out2 ≡ out1 → c2 ≡ c1 → Stepped c s out k c2 s2 out2
 joined {c = c} {s = s} {out = out} {k = k} p e f g =
     subst (λ (x : Context × List ℕ × List Float). Stepped c s out k (x .0) (x .1) (x .2)) (λ i. (sym g i, sym e i, sym f i)) p
 
@@ -191,9 +205,11 @@ pub record Progress (c₀ : Context) (s₀ words bytes : List ℕ) (out₀ : Lis
   pub calls : before ++ decodeTo left bytes (length out₀) (drop place words) ≡ decode bytes (length out₀) words
   pub read : place + wordsTo left bytes (length out₀) (drop place words) ≡ wordsRead bytes (length out₀) words
 
-module _ {c₀ : Context} {s₀ words bytes : List ℕ} {out₀ : List Float} {place m : ℕ} {c : Context} {s : List ℕ} {out : List Float} (g : Progress c₀ s₀ words bytes out₀ place (suc m) c s out) where
+module _ {c₀ : Context} {s₀ words bytes : List ℕ} {out₀ : List Float} {place m : ℕ} {c : Context} {s : List ℕ} {out : List Float}
+    (g : Progress c₀ s₀ words bytes out₀ place (suc m) c s out) where
   -- one call more
-  progress-made : {k : Call} {n value : ℕ} {c1 : Context} {s1 : List ℕ} {out1 : List Float} → firstCall bytes (length out₀) (drop place words) ≡ some k → Performed c s out n value c1 s1 out1 k
+  progress-made : {k : Call} {n value : ℕ} {c1 : Context} {s1 : List ℕ} {out1 : List Float}
+      → firstCall bytes (length out₀) (drop place words) ≡ some k → Performed c s out n value c1 s1 out1 k
       → Progress c₀ s₀ words bytes out₀ (place + recordLength (drop place words)) m c1 s1 out1
   unfolding decodeTo wordsTo
   progress-made {k = k} f p =
@@ -229,7 +245,8 @@ module _ {c₀ : Context} {s₀ words bytes : List ℕ} {out₀ : List Float} {p
 
 module _ {c₀ : Context} {s₀ words bytes : List ℕ} {out₀ : List Float} where
   -- the next call is made
-  pub progress-next : {place left size : ℕ} {c c1 : Context} {s s1 : List ℕ} {out out1 : List Float} → Progress c₀ s₀ words bytes out₀ place left c s out → 0 < left → length out ≡ length out₀
+  pub progress-next : {place left size : ℕ} {c c1 : Context} {s s1 : List ℕ} {out out1 : List Float}
+      → Progress c₀ s₀ words bytes out₀ place left c s out → 0 < left → length out ≡ length out₀
       → size ≡ nextSize (drop place words) → (size ≡ 0 → ⊥) → {code : ℕ} → code ≡ wordAt words place
       → Changes c s out c1 s1 out1 (callOf bytes (length out) code (take (place + size - (place + 2)) (drop (place + 2) words)))
       → Progress c₀ s₀ words bytes out₀ (place + size) (left - 1) c1 s1 out1
@@ -275,7 +292,8 @@ output-append before (k ∷ a) b out =
     output-append (before ++ (k ∷ [])) a b (outputAfter (logs before) k out)
     ∙ ap (λ (l : List Call). outputFrom l b (outputFrom (before ++ (k ∷ [])) a (outputAfter (logs before) k out))) (append-assoc before (k ∷ []) a)
 
-in-turn : {before l : List Call} {c c1 : Context} {s s1 : List ℕ} {out out1 : List Float} → History before c s → InTurn c s out l c1 s1 out1 → History (before ++ l) c1 s1 × (out1 ≡ outputFrom before l out)
+in-turn : {before l : List Call} {c c1 : Context} {s s1 : List ℕ} {out out1 : List Float}
+    → History before c s → InTurn c s out l c1 s1 out1 → History (before ++ l) c1 s1 × (out1 ≡ outputFrom before l out)
 unfolding outputFrom
 in-turn {before = before} {c = c} {s = s} h no-call = (subst (λ (l : List Call). History l c s) (sym (append-nil before)) h, refl)
 in-turn {before = before} {out = out} h (one-more {l = l} {k = k} {c2 = c2} {s2 = s2} t p) =
@@ -284,6 +302,7 @@ in-turn {before = before} {out = out} h (one-more {l = l} {k = k} {c2 = c2} {s2 
       output-is (q .0) p ∙ ap (λ (o : List Float). outputAfter (logs (before ++ l)) k o) (q .1) ∙ sym (output-append before l (k ∷ []) out),
     )
 
-pub continues : {before : List Call} {c : Context} {words bytes s s1 : List ℕ} {out out1 : List Float} {r : ListReply} → History before c s → MakesList c words bytes s out r s1 out1
+pub continues : {before : List Call} {c : Context} {words bytes s s1 : List ℕ} {out out1 : List Float} {r : ListReply}
+    → History before c s → MakesList c words bytes s out r s1 out1
     → Continues before words bytes out r s1 out1
 continues h m = let q = in-turn h (m .made) in record { read = m .read; history = q .0; output = q .1 }

@@ -28,7 +28,8 @@ pub record Changes (c : Context) (s : List ℕ) (out : List Float) (c1 : Context
 -- `InTurn c s out l c1 s1 out1`: the calls of l were made, each on what the one before left
 pub data InTurn (c : Context) (s : List ℕ) (out : List Float) : List Call → Context → List ℕ → List Float → Type 0 where
   no-call : InTurn c s out [] c s out
-  one-more : {l : List Call} {k : Call} {n value : ℕ} {c1 c2 : Context} {s1 s2 : List ℕ} {out1 out2 : List Float} → InTurn c s out l c1 s1 out1 → Performed c1 s1 out1 n value c2 s2 out2 k
+  one-more : {l : List Call} {k : Call} {n value : ℕ} {c1 c2 : Context} {s1 s2 : List ℕ} {out1 out2 : List Float}
+      → InTurn c s out l c1 s1 out1 → Performed c1 s1 out1 n value c2 s2 out2 k
       → InTurn c s out (l ++ (k ∷ [])) c2 s2 out2
 
 -- the calls of a list are made, up to the first words that are no record
@@ -57,4 +58,5 @@ outputFrom before (k ∷ l) out = outputFrom (before ++ (k ∷ [])) l (outputAft
 pub record Runs (words bytes s : List ℕ) (out : List Float) (r : RunReply) (s1 : List ℕ) (out1 : List Float) : Type 0 where
   pub refused : (length s ≡ storeBytes → ⊥) → (r .number ≡ 1) × (r .read ≡ 0) × Fresh (r .context) × (s1 ≡ s) × (out1 ≡ out)
   pub ran : length s ≡ storeBytes
-      → (r .number ≡ 0) × (r .read ≡ wordsRead bytes (length out) words) × History (decode bytes (length out) words) (r .context) s1 × (out1 ≡ outputFrom [] (decode bytes (length out) words) out)
+      → (r .number ≡ 0) × (r .read ≡ wordsRead bytes (length out) words)
+      × History (decode bytes (length out) words) (r .context) s1 × (out1 ≡ outputFrom [] (decode bytes (length out) words) out)

@@ -19,7 +19,8 @@ fn perform(
     bytes: &[u8],
     out: &mut [f32],
 ) -> CallReply
-    ensures { λ r. ⌜ Performs c (now (store .entry)) (now (out .entry)) r (now (store .exit)) (now (out .exit)) (some (callOf (now (bytes .entry)) (length (now (out .entry))) code (now (w .entry)))) ⌝ }
+    ensures { λ r. ⌜ Performs c (now (store .entry)) (now (out .entry)) r (now (store .exit)) (now (out .exit))
+        (some (callOf (now (bytes .entry)) (length (now (out .entry))) code (now (w .entry)))) ⌝ }
 {
     if code == 0x10 {
         return records::replied(gles::set_matrix_mode(c, words::word_at(w, 0)));
@@ -54,7 +55,8 @@ pub fn make_call(
     bytes: &[u8],
     out: &mut [f32],
 ) -> CallReply
-    ensures { λ r. ⌜ Performs c (now (store .entry)) (now (out .entry)) r (now (store .exit)) (now (out .exit)) (recordCall (now (bytes .entry)) (length (now (out .entry))) code (now (w .entry))) ⌝ }
+    ensures { λ r. ⌜ Performs c (now (store .entry)) (now (out .entry)) r (now (store .exit)) (now (out .exit))
+        (recordCall (now (bytes .entry)) (length (now (out .entry))) code (now (w .entry))) ⌝ }
 {
     if !records::is_record(code, w.len()) {
         return CallReply {

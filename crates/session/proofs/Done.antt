@@ -52,7 +52,8 @@ module _ (c : Context) (v : Borrowed) (w bytes store guest : List ℕ) (out : Li
             view = refl;
           }
 
-  pub others : (code < 0x70 → code < 0x10) → {a : ℕ} {store1 guest1 : List ℕ} → a ≡ wordAt w 0 → Inspected c code a c1 → store1 ≡ storeAfter code w bytes store → guest1 ≡ guestAfter code w bytes guest
+  pub others : (code < 0x70 → code < 0x10) → {a : ℕ} {store1 guest1 : List ℕ}
+      → a ≡ wordAt w 0 → Inspected c code a c1 → store1 ≡ storeAfter code w bytes store → guest1 ≡ guestAfter code w bytes guest
       → Done c v code w bytes store guest out c1 store1 guest1 out
   others low {a = a} {store1 = store1} {guest1 = guest1} e i es eg =
       record { draws = λ l h. absurd (omega (arith, low h)); calls = λ l h. absurd (omega (arith, low (omega arith))); below = λ _. done; above = λ _. done }

@@ -18,6 +18,7 @@ module _ (code : ℕ) (w : List ℕ) (stacks : List MatrixStack) (slot : ℕ) (e
   unfolding stacksAfter
   no-slot t l = rw (t, sym e, le-ltb slot stackSlots l)
 
-  pub put : isStackRecord code ≡ true → slot < stackSlots → (s : MatrixStack) → s ≡ stackRecord code w (getD stacks slot noStack) .stack → set stacks slot s ≡ stacksAfter code w stacks
+  pub put : isStackRecord code ≡ true → slot < stackSlots → (s : MatrixStack)
+      → s ≡ stackRecord code w (getD stacks slot noStack) .stack → set stacks slot s ≡ stacksAfter code w stacks
   unfolding stacksAfter
   put t l s q = rw (t, sym e, lt-ltb slot stackSlots l, q)

@@ -1,4 +1,5 @@
--- What a record of a trace does to the context and to the areas: the store's, the guest's and the output (TRACE.md: "Settings", "Calls", "Outer stacks, unsound contexts, state", "Output").
+-- What a record of a trace does to the context and to the areas: the store's, the guest's and the output
+-- (TRACE.md: "Settings", "Calls", "Outer stacks, unsound contexts, state", "Output").
 use mathlib.Core.List.{List, _++_}
 use mathlib.Core.Path.{_≡_}
 use Prim.Native.Nat.{ℕ, _<_, _≤_}
@@ -48,7 +49,8 @@ pub record DrawIn (c : Context) (v : Borrowed) (code : ℕ) (w store guest : Lis
   pub areas : (store1 ≡ store) × (guest1 ≡ guest)
 
 -- what another call is lent: the first bytes of the store's area
-pub record CallIn (c : Context) (v : Borrowed) (code : ℕ) (w bytes store guest : List ℕ) (out : List Float) (c1 : Context) (store1 guest1 : List ℕ) (out1 : List Float) : Type 0 where
+pub record CallIn (c : Context) (v : Borrowed) (code : ℕ) (w bytes store guest : List ℕ) (out : List Float)
+    (c1 : Context) (store1 guest1 : List ℕ) (out1 : List Float) : Type 0 where
   pub part : List ℕ
   pub done : CallDone c code w bytes (take (v .store) store) out c1 part out1
   pub area : store1 ≡ part ++ drop (v .store) store

@@ -105,7 +105,8 @@ pub fn perform(
     guest: &mut [u8],
     out: &mut [f32],
 ) -> Context
-    ensures { λ r. ⌜ Done c v code (now (w .entry)) (now (bytes .entry)) (now (store .entry)) (now (guest .entry)) (now (out .entry)) r (now (store .exit)) (now (guest .exit)) (now (out .exit)) ⌝ }
+    ensures { λ r. ⌜ Done c v code (now (w .entry)) (now (bytes .entry)) (now (store .entry)) (now (guest .entry)) (now (out .entry))
+        r (now (store .exit)) (now (guest .exit)) (now (out .exit)) ⌝ }
 {
     if code < 0x70 {
         if 0x60 <= code {

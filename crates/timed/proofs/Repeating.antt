@@ -37,7 +37,8 @@ module _ {before : List Call} {words bytes : List ℕ} {out₀ : List Float} whe
             ∙ ap (λ (o : List Float). outputFrom (before ++ timesOf i l) l o) (g .output) ∙ sym (output-append before (timesOf i l) l out₀);
       })
 
-  pub repeats-all : {i times : ℕ} {c : Context} {s : List ℕ} {out : List Float} → Repeats before i words bytes out₀ c s out → i ≡ times → Repeats before times words bytes out₀ c s out
+  pub repeats-all : {i times : ℕ} {c : Context} {s : List ℕ} {out : List Float}
+      → Repeats before i words bytes out₀ c s out → i ≡ times → Repeats before times words bytes out₀ c s out
   repeats-all {c = c} {s = s} {out = out} g e = subst (λ (n : ℕ). Repeats before n words bytes out₀ c s out) e g
 
 -- ---- the two ways out
@@ -46,7 +47,8 @@ module _ {first bytes s s1 : List ℕ} {out out1 : List Float} {r : RunReply} (g
   pub again-refused : (r .number ≡ 0 → ⊥) → RunsAgain first again times bytes s out 0 s1 out1
   again-refused n = record { refused = λ e. (refl, g .refused e .3, g .refused e .4); ran = λ e. absurd (n (g .ran e .0)) }
 
-  pub again-ran : {c2 : Context} {s2 : List ℕ} {out2 : List Float} → r .number ≡ 0 → length out1 ≡ length out → ((l : List Call) → History l (r .context) s1 → Repeats l times again bytes out1 c2 s2 out2)
+  pub again-ran : {c2 : Context} {s2 : List ℕ} {out2 : List Float} → r .number ≡ 0 → length out1 ≡ length out
+      → ((l : List Call) → History l (r .context) s1 → Repeats l times again bytes out1 c2 s2 out2)
       → RunsAgain first again times bytes s out (r .read) s2 out2
   again-ran {c2 = c2} {s2 = s2} {out2 = out2} z e p =
       record {

@@ -34,4 +34,5 @@ pub record Left (l : List Call) (s : List ℕ) : Type 0 where
 pub record RunsAgain (first again : List ℕ) (times : ℕ) (bytes s : List ℕ) (out : List Float) (read : ℕ) (s1 : List ℕ) (out1 : List Float) : Type 0 where
   pub refused : (length s ≡ storeBytes → ⊥) → (read ≡ 0) × (s1 ≡ s) × (out1 ≡ out)
   pub ran : length s ≡ storeBytes
-      → (read ≡ wordsRead bytes (length out) first) × Left (callsOf first again times bytes (length out)) s1 × (out1 ≡ outputFrom [] (callsOf first again times bytes (length out)) out)
+      → (read ≡ wordsRead bytes (length out) first) × Left (callsOf first again times bytes (length out)) s1
+      × (out1 ≡ outputFrom [] (callsOf first again times bytes (length out)) out)

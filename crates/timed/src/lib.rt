@@ -14,7 +14,8 @@ fn repeat(
     store: &mut [u8],
     out: &mut [f32],
 ) -> Context
-    ensures { λ r. ⌜ ((before : List Call) → History before c (now (store .entry)) → Repeats before times (now (words .entry)) (now (bytes .entry)) (now (out .entry)) r (now (store .exit)) (now (out .exit))) ⌝ }
+    ensures { λ r. ⌜ ((before : List Call) → History before c (now (store .entry))
+        → Repeats before times (now (words .entry)) (now (bytes .entry)) (now (out .entry)) r (now (store .exit)) (now (out .exit))) ⌝ }
 {
     let mut c = c;
     let mut i = 0;
@@ -36,7 +37,8 @@ pub extern "C" fn beonasul_repeat(
     store: &mut [u8],
     out: &mut [f32],
 ) -> usize
-    ensures { λ r. ⌜ RunsAgain (now (first .entry)) (now (again .entry)) times (now (bytes .entry)) (now (store .entry)) (now (out .entry)) r (now (store .exit)) (now (out .exit)) ⌝ }
+    ensures { λ r. ⌜ RunsAgain (now (first .entry)) (now (again .entry)) times (now (bytes .entry)) (now (store .entry)) (now (out .entry))
+        r (now (store .exit)) (now (out .exit)) ⌝ }
 {
     let r = runner::run(first, bytes, &mut store[..], &mut out[..]);
     if r.number != 0 {

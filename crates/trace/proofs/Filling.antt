@@ -39,7 +39,8 @@ unfolding hashFrom
 hash-append h [] b = refl
 hash-append h (x ∷ xs) b = hash-append (hashStep h x) xs b
 
-pub hash-more : (h : ℕ) (bytes : List ℕ) (i : ℕ) {g r : ℕ} → i < length bytes → g ≡ hashFrom h (take i bytes) → r ≡ hashStep g (getD bytes i 0) → r ≡ hashFrom h (take (i + 1) bytes)
+pub hash-more : (h : ℕ) (bytes : List ℕ) (i : ℕ) {g r : ℕ}
+    → i < length bytes → g ≡ hashFrom h (take i bytes) → r ≡ hashStep g (getD bytes i 0) → r ≡ hashFrom h (take (i + 1) bytes)
 hash-more h bytes i l eg er =
     er ∙ ap (λ g. hashStep g (getD bytes i 0)) eg
     ∙ sym (hash-append h (take i bytes) (getD bytes i 0))

@@ -49,7 +49,8 @@ whole-words n last a b c = rw (eq-eqb (n % 4) 0 (none-left (n % 4) (mod-lt n (ze
 abbrev picked : Bool → Bool → Bool → Bool → Fault
 picked s i j p = cond s (cond i (cond j (cond p Fault.None Fault.Padding) Fault.Bound) Fault.Bound) Fault.Shape
 
-pub fault-is : (code : ℕ) (w : List ℕ) {h l : List ℕ} (s i j p : Bool) → h ≡ head w → l ≡ limitsOf code → s ≡ hasSize code (length w) h → i ≡ within 5 h l → j ≡ isJoined code h → p ≡ hasPadding code w
+pub fault-is : (code : ℕ) (w : List ℕ) {h l : List ℕ} (s i j p : Bool)
+    → h ≡ head w → l ≡ limitsOf code → s ≡ hasSize code (length w) h → i ≡ within 5 h l → j ≡ isJoined code h → p ≡ hasPadding code w
     → picked s i j p ≡ faultOf code w
 unfolding faultOf
 fault-is code w {h = h} {l = l} s i j p eh el es ei ej ep =

@@ -12,7 +12,8 @@ identityWords =
     0x3f80_0000 ∷ 0 ∷ 0 ∷ 0 ∷ 0 ∷ 0x3f80_0000 ∷ 0 ∷ 0
     ∷ 0 ∷ 0 ∷ 0x3f80_0000 ∷ 0 ∷ 0 ∷ 0 ∷ 0 ∷ 0x3f80_0000 ∷ []
 
--- sixteen words that are made for a call, of which it may take the first. A rotation about no axis multiplies by the identity. The number of names has two words. Bytes lie in the record itself: those of an upload 20 bytes from its first word on, those of a part 12
+-- sixteen words that are made for a call, of which it may take the first. A rotation about no axis multiplies by the identity.
+-- The number of names has two words. Bytes lie in the record itself: those of an upload 20 bytes from its first word on, those of a part 12
 abbrev pub madeRows : List ℕ → List (Row (List ℕ))
 madeRows w =
     0x20 names (wordAt w 0 ∷ 0 ∷ 0 ∷ 0 ∷ 0 ∷ 0 ∷ 0 ∷ 0 ∷ 0 ∷ 0 ∷ 0 ∷ 0 ∷ 0 ∷ 0 ∷ 0 ∷ 0 ∷ [])

@@ -37,7 +37,8 @@ module _ (bytes : List ℕ) (room : ℕ) where
   unfolding isRecord callOf bufferOf callWords callCode
   deletes k names = rw (eq-eqb (length names) (length names) refl)
 
-  uploads : (target size usage has n : ℕ) (rest : List ℕ) → decoded bytes room 0x23 (target ∷ size ∷ usage ∷ has ∷ n ∷ rest) ≡ some (object (buffer (bufferData target size (bytesAt bytes 20 n) usage)))
+  uploads : (target size usage has n : ℕ) (rest : List ℕ)
+      → decoded bytes room 0x23 (target ∷ size ∷ usage ∷ has ∷ n ∷ rest) ≡ some (object (buffer (bufferData target size (bytesAt bytes 20 n) usage)))
   unfolding isRecord callOf bufferOf madeWords callWords callCode
   uploads target size usage has n rest = λ i. some (object (buffer (bufferData target (add-zero size i) (bytesAt bytes 20 (add-zero n i)) usage)))
 

@@ -68,7 +68,8 @@ pub record Greatest (slots : List Slot) (n r : ℕ) : Type 0 where
   pub bound : (k : ℕ) → k < n → nameAt slots k ≤ r
   pub live : 0 < r → Live slots r
 
--- k: the slot of the least live name; last: the greatest live name. 6: its length 4,097; 7: the name in two slots; 9: next 0; 10: next the greatest; 11: the array binding to next, which is not live while the buffers are sound
+-- k: the slot of the least live name; last: the greatest live name.
+-- 6: its length 4,097; 7: the name in two slots; 9: next 0; 10: next the greatest; 11: the array binding to next, which is not live while the buffers are sound
 abbrev pub bufferRows : ℕ → ℕ → Buffers → List (Row Buffers)
 bufferRows k last b =
     6 names withSlot k (slot (nameAt (b .slots) k) (slotBytes + 1)) b

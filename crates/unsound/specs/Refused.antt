@@ -52,7 +52,8 @@ low-next r q h =
 
 -- k is the slot of the least live name; `places` is true of all buffers that a program holds
 
-module _ (b : Buffers) (places : length (b .slots) ≡ slotCount) (k last : ℕ) (lives : k < slotCount) (named : 0 < nameAt (b .slots) k) (greatest : Greatest (b .slots) slotCount last) where
+module _ (b : Buffers) (places : length (b .slots) ≡ slotCount) (k last : ℕ)
+    (lives : k < slotCount) (named : 0 < nameAt (b .slots) k) (greatest : Greatest (b .slots) slotCount last) where
   abbrev stored : ℕ → Slot → Buffers
   stored j s = buffersOf (set (b .slots) j s) (b .next) (b .«array_buffer») (b .«element_buffer»)
 
@@ -69,8 +70,9 @@ module _ (b : Buffers) (places : length (b .slots) ≡ slotCount) (k last : ℕ)
 
   twice : (j : ℕ) → j < slotCount → (k ≡ j → ⊥) → Refused (stored j (slot (nameAt (b .slots) k) 0))
   twice j l other h =
-      let e : nameAt (set (b .slots) j (slot (nameAt (b .slots) k) 0)) j ≡ nameAt (b .slots) k = ap (λ (s : Slot). s .name) (put-there j (slot (nameAt (b .slots) k) 0) l) in
-      let f : nameAt (set (b .slots) j (slot (nameAt (b .slots) k) 0)) k ≡ nameAt (b .slots) k = ap (λ (s : Slot). s .name) (getD-set-other (b .slots) j k (slot (nameAt (b .slots) k) 0) freeSlot other) in
+      let same : Slot = slot (nameAt (b .slots) k) 0 in
+      let e : nameAt (set (b .slots) j same) j ≡ nameAt (b .slots) k = ap (λ (s : Slot). s .name) (put-there j same l) in
+      let f : nameAt (set (b .slots) j same) k ≡ nameAt (b .slots) k = ap (λ (s : Slot). s .name) (getD-set-other (b .slots) j k same freeSlot other) in
       other (h .once k j lives l (omega arith) (f ∙ sym e))
 
   in-two : Refused (withSlot (otherThan k) (slot (nameAt (b .slots) k) 0) b)

@@ -29,7 +29,10 @@ loop-again : tie.Need-loop-again Inv-loop μ-loop
 loop-again c = (omega (arith, c .before .loop-test .taken), c .lesser .ensures)
 
 returns : tie.Need-returns Inv-loop μ-loop
-returns c = subst (λ n. NextLive (c .before .before .args .b .slots) (c .before .before .args .above) n (c .before .loop .best)) (omega (arith, c .before .loop .inv .0, c .loop-test .left)) (c .before .loop .inv .1)
+returns c =
+    let a = c .before .before .args in
+    let loop = c .before .loop in
+    subst (λ n. NextLive (a .b .slots) (a .above) n (loop .best)) (omega (arith, loop .inv .0, c .loop-test .left)) (loop .inv .1)
 
 pub next-live-spec : {M : Type 1} → statement M
 next-live-spec =

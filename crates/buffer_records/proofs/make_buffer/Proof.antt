@@ -14,23 +14,45 @@ long-at-requires c κs = search needs
 
 returns : tie.Need-returns
 unfolding bufferOf
-returns c = answers-is (ap gen (c .before .long-at .ensures) ∙ (λ i. bufferOf (c .before .before .before .before .before .before .args .bytes .now) (sym (c .before .before .match .keys1) i) (c .before .before .before .before .before .before .args .w .now))) ((c .make-gen .ensures .0, c .make-gen .ensures .1 .does _), c .make-gen .ensures .1 .value-is)
+returns c =
+    let a = c .before .before .before .before .before .before .args in
+    let arm = c .before .before .match .keys1 in
+    let long-at = c .before .long-at .ensures in
+    let made = c .make-gen .ensures in
+    answers-is (ap gen long-at ∙ (λ i. bufferOf (a .bytes .now) (sym arm i) (a .w .now))) ((made .0, made .1 .does _), made .1 .value-is)
 
 returns-2 : tie.Need-returns-2
 unfolding bufferOf
-returns-2 c = answers-is ((λ i. bind (c .before .before .before .word-at .ensures i) (c .before .before .word-at2 .ensures i)) ∙ (λ i. bufferOf (c .before .before .before .before .before .before .before .before .args .bytes .now) (sym (c .before .before .before .before .match .keys2) i) (c .before .before .before .before .before .before .before .before .args .w .now))) (replied-is (c .replied .ensures) (c .before .bind-buffer .ensures _) refl)
+returns-2 c =
+    let a = c .before .before .before .before .before .before .before .before .args in
+    let arm = c .before .before .before .before .match .keys2 in
+    let word-at = c .before .before .before .word-at .ensures in
+    let word-at2 = c .before .before .word-at2 .ensures in
+    answers-is ((λ i. bind (word-at i) (word-at2 i)) ∙ (λ i. bufferOf (a .bytes .now) (sym arm i) (a .w .now)))
+    (replied-is (c .replied .ensures) (c .before .bind-buffer .ensures _) refl)
 
 returns-3 : tie.Need-returns-3
 unfolding bufferOf
-returns-3 c = answers-is (λ i. bufferOf (c .before .before .before .before .before .before .args .bytes .now) (sym (c .before .before .match .keys3) i) (c .before .before .before .before .before .before .args .w .now)) (replied-is (c .replied2 .ensures) (c .before .delete-buffers .ensures _) refl)
+returns-3 c =
+    let a = c .before .before .before .before .before .before .args in
+    let arm = c .before .before .match .keys3 in
+    answers-is (λ i. bufferOf (a .bytes .now) (sym arm i) (a .w .now)) (replied-is (c .replied2 .ensures) (c .before .delete-buffers .ensures _) refl)
 
 returns-4 : tie.Need-returns-4
 unfolding bufferOf
-returns-4 c = answers-is (λ i. bufferOf (c .before .before .before .before .before .before .before .before .before .args .bytes .now) (sym (c .before .before .before .before .before .match .keys4) i) (c .before .before .before .before .before .before .before .before .before .args .w .now)) (replied-is (c .replied3 .ensures) (c .before .before .before .make-data .ensures) refl)
+returns-4 c =
+    let a = c .before .before .before .before .before .before .before .before .before .args in
+    let arm = c .before .before .before .before .before .match .keys4 in
+    let make-data = c .before .before .before .make-data .ensures in
+    answers-is (λ i. bufferOf (a .bytes .now) (sym arm i) (a .w .now)) (replied-is (c .replied3 .ensures) make-data refl)
 
 returns-5 : tie.Need-returns-5
 unfolding bufferOf
-returns-5 c = answers-is (last-row (bufferRows (c .before .before .before .before .before .before .before .before .before .args .bytes .now) (c .before .before .before .before .before .before .before .before .before .args .w .now)) _ _ (c .before .before .before .before .before .match .rest)) (replied-is (c .replied4 .ensures) (c .before .before .before .make-sub-data .ensures) refl)
+returns-5 c =
+    let a = c .before .before .before .before .before .before .before .before .before .args in
+    let arm = c .before .before .before .before .before .match .rest in
+    let make-sub-data = c .before .before .before .make-sub-data .ensures in
+    answers-is (last-row (bufferRows (a .bytes .now) (a .w .now)) _ _ arm) (replied-is (c .replied4 .ensures) make-sub-data refl)
 
 pub make-buffer-spec : {M : Type 1} → statement M
 make-buffer-spec =

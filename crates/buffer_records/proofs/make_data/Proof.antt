@@ -6,7 +6,12 @@ use Rattle.buffer_records.proofs.make_data.Statement.{statement}
 use Rattle.buffer_records.proofs.make_data.Tie as tie
 
 returns : tie.Need-returns
-returns c = did-is (λ i. object (buffer (bufferData (c .before .before .before .before .before .before .before .word-at .ensures i) (c .before .before .before .before .before .before .long-at .ensures i) (c .before .before .before .before .part-at .ensures i) (c .before .before .before .before .before .word-at2 .ensures i)))) (c .before .before .buffer-data .ensures)
+returns c =
+    let word-at = c .before .before .before .before .before .before .before .word-at .ensures in
+    let long-at = c .before .before .before .before .before .before .long-at .ensures in
+    let word-at2 = c .before .before .before .before .before .word-at2 .ensures in
+    let part-at = c .before .before .before .before .part-at .ensures in
+    did-is (λ i. object (buffer (bufferData (word-at i) (long-at i) (part-at i) (word-at2 i)))) (c .before .before .buffer-data .ensures)
 
 pub make-data-spec : {M : Type 1} → statement M
 make-data-spec =

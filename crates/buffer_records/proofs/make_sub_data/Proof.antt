@@ -6,7 +6,11 @@ use Rattle.buffer_records.proofs.make_sub_data.Statement.{statement}
 use Rattle.buffer_records.proofs.make_sub_data.Tie as tie
 
 returns : tie.Need-returns
-returns c = did-is (λ i. object (buffer (bufferSubData (c .before .before .before .before .before .before .word-at .ensures i) (c .before .before .before .before .before .word-at2 .ensures i) (c .before .before .before .before .part-at .ensures i)))) (c .before .before .buffer-sub-data .ensures)
+returns c =
+    let word-at = c .before .before .before .before .before .before .word-at .ensures in
+    let word-at2 = c .before .before .before .before .before .word-at2 .ensures in
+    let part-at = c .before .before .before .before .part-at .ensures in
+    did-is (λ i. object (buffer (bufferSubData (word-at i) (word-at2 i) (part-at i)))) (c .before .before .buffer-sub-data .ensures)
 
 pub make-sub-data-spec : {M : Type 1} → statement M
 make-sub-data-spec =

@@ -4,7 +4,10 @@ use Rattle.draw_records.proofs.draw_words.Statement.{statement}
 use Rattle.draw_records.proofs.draw_words.Tie as tie
 
 returns : tie.Need-returns
-returns c = rw (c .before .before .before .before .word-at .ensures, c .before .before .before .word-at2 .ensures, c .before .smaller .ensures, c .before .before .long-at .ensures, c .word-at3 .ensures)
+returns c =
+    let word-at = c .before .before .before .before .word-at .ensures in
+    let word-at2 = c .before .before .before .word-at2 .ensures in
+    rw (word-at, word-at2, c .before .smaller .ensures, c .before .before .long-at .ensures, c .word-at3 .ensures)
 
 pub draw-words-spec : {M : Type 1} → statement M
 draw-words-spec =

@@ -15,7 +15,10 @@ returns-2 c = rw (c .before .before .before .before .match .keys2) (c .before .b
 
 returns-3 : tie.Need-returns-3
 unfolding sourceOf
-returns-3 c = drew-is (c .before .before .before .before .before .before .before .before .before .args .bytes .now) (c .before .before .before .before .before .before .before .before .before .args .w .now) _ (last-row (sourceRows (c .before .before .before .before .before .before .before .before .before .args .w .now)) _ _ (c .before .before .before .before .match .rest)) (c .before .before .make-stored-draw .ensures)
+returns-3 c =
+    let a = c .before .before .before .before .before .before .before .before .before .args in
+    let arm = c .before .before .before .before .match .rest in
+    drew-is (a .bytes .now) (a .w .now) _ (last-row (sourceRows (a .w .now)) _ _ arm) (c .before .before .make-stored-draw .ensures)
 
 pub make-draw-spec : {M : Type 1} → statement M
 make-draw-spec =

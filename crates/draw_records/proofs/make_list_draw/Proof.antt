@@ -7,13 +7,23 @@ use Rattle.draw_records.proofs.make_list_draw.Statement.{statement}
 use Rattle.draw_records.proofs.make_list_draw.Tie as tie
 
 slice-relend-prefix-draw-elements : tie.Need-slice-relend-prefix-draw-elements
-slice-relend-prefix-draw-elements c = room-fits (c .before .before .before .before .before .before .before .args .w .now) (c .before .before .before .before .before .before .before .args .out .now) _ (c .before .before .draw-words .ensures)
+slice-relend-prefix-draw-elements c =
+    let a = c .before .before .before .before .before .before .before .args in
+    room-fits (a .w .now) (a .out .now) _ (c .before .before .draw-words .ensures)
 
 slice-aggregate-draw-elements : tie.Need-slice-aggregate-draw-elements
-slice-aggregate-draw-elements c = room-is (c .before .before .before .before .before .before .before .before .args .w .now) (c .before .before .before .before .before .before .before .before .args .out .now) _ (c .before .before .before .draw-words .ensures)
+slice-aggregate-draw-elements c =
+    let a = c .before .before .before .before .before .before .before .before .args in
+    let draw-words = c .before .before .before .draw-words .ensures in
+    room-is (a .w .now) (a .out .now) _ draw-words
 
 returns : tie.Need-returns
-returns c = drew-in (c .before .before .before .before .before .before .before .before .before .before .before .args .w .now) (c .before .before .before .before .before .before .before .before .before .before .before .args .out .now) _ (c .before .before .before .before .before .before .draw-words .ensures) (c .before .before .before .before .before .before .before .before .before .before .before .args .bytes .now) _ (c .before .before .before .before .before .part-at .ensures) _ _ (ap list (c .before .before .before .before .words-from .ensures)) (c .before .before .draw-elements .ensures)
+returns c =
+    let a = c .before .before .before .before .before .before .before .before .before .before .before .args in
+    let draw-words = c .before .before .before .before .before .before .draw-words .ensures in
+    let part-at = c .before .before .before .before .before .part-at .ensures in
+    let words-from = c .before .before .before .before .words-from .ensures in
+    drew-in (a .w .now) (a .out .now) _ draw-words (a .bytes .now) _ part-at _ _ (ap list words-from) (c .before .before .draw-elements .ensures)
 
 pub make-list-draw-spec : {M : Type 1} → statement M
 make-list-draw-spec =

@@ -6,13 +6,25 @@ use Rattle.draw_records.proofs.make_range_draw.Statement.{statement}
 use Rattle.draw_records.proofs.make_range_draw.Tie as tie
 
 slice-relend-prefix-draw-arrays : tie.Need-slice-relend-prefix-draw-arrays
-slice-relend-prefix-draw-arrays c = room-fits (c .before .before .before .before .before .before .before .before .args .w .now) (c .before .before .before .before .before .before .before .before .args .out .now) _ (c .before .before .before .draw-words .ensures)
+slice-relend-prefix-draw-arrays c =
+    let a = c .before .before .before .before .before .before .before .before .args in
+    let draw-words = c .before .before .before .draw-words .ensures in
+    room-fits (a .w .now) (a .out .now) _ draw-words
 
 slice-aggregate-draw-arrays : tie.Need-slice-aggregate-draw-arrays
-slice-aggregate-draw-arrays c = room-is (c .before .before .before .before .before .before .before .before .before .args .w .now) (c .before .before .before .before .before .before .before .before .before .args .out .now) _ (c .before .before .before .before .draw-words .ensures)
+slice-aggregate-draw-arrays c =
+    let a = c .before .before .before .before .before .before .before .before .before .args in
+    let draw-words = c .before .before .before .before .draw-words .ensures in
+    room-is (a .w .now) (a .out .now) _ draw-words
 
 returns : tie.Need-returns
-returns c = drew-in (c .before .before .before .before .before .before .before .before .before .before .before .before .args .w .now) (c .before .before .before .before .before .before .before .before .before .before .before .before .args .out .now) _ (c .before .before .before .before .before .before .before .draw-words .ensures) (c .before .before .before .before .before .before .before .before .before .before .before .before .args .bytes .now) _ (c .before .before .before .before .before .before .part-at .ensures) _ _ (λ i. range (c .before .before .before .before .before .word-at .ensures i) (c .before .before .before .before .word-at2 .ensures i)) (c .before .before .draw-arrays .ensures)
+returns c =
+    let a = c .before .before .before .before .before .before .before .before .before .before .before .before .args in
+    let draw-words = c .before .before .before .before .before .before .before .draw-words .ensures in
+    let part-at = c .before .before .before .before .before .before .part-at .ensures in
+    let word-at = c .before .before .before .before .before .word-at .ensures in
+    let word-at2 = c .before .before .before .before .word-at2 .ensures in
+    drew-in (a .w .now) (a .out .now) _ draw-words (a .bytes .now) _ part-at _ _ (λ i. range (word-at i) (word-at2 i)) (c .before .before .draw-arrays .ensures)
 
 pub make-range-draw-spec : {M : Type 1} → statement M
 make-range-draw-spec =

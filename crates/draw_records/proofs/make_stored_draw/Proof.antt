@@ -7,13 +7,27 @@ use Rattle.draw_records.proofs.make_stored_draw.Tie as tie
 
 slice-relend-prefix-draw-elements-from-guest :
     tie.Need-slice-relend-prefix-draw-elements-from-guest
-slice-relend-prefix-draw-elements-from-guest c = room-fits (c .before .before .before .before .before .before .before .before .before .args .w .now) (c .before .before .before .before .before .before .before .before .before .args .out .now) _ (c .before .before .before .before .draw-words .ensures)
+slice-relend-prefix-draw-elements-from-guest c =
+    let a = c .before .before .before .before .before .before .before .before .before .args in
+    let draw-words = c .before .before .before .before .draw-words .ensures in
+    room-fits (a .w .now) (a .out .now) _ draw-words
 
 slice-aggregate-draw-elements-from-guest : tie.Need-slice-aggregate-draw-elements-from-guest
-slice-aggregate-draw-elements-from-guest c = room-is (c .before .before .before .before .before .before .before .before .before .before .args .w .now) (c .before .before .before .before .before .before .before .before .before .before .args .out .now) _ (c .before .before .before .before .before .draw-words .ensures)
+slice-aggregate-draw-elements-from-guest c =
+    let a = c .before .before .before .before .before .before .before .before .before .before .args in
+    let draw-words = c .before .before .before .before .before .draw-words .ensures in
+    room-is (a .w .now) (a .out .now) _ draw-words
 
 returns : tie.Need-returns
-returns c = drew-in (c .before .before .before .before .before .before .before .before .before .before .before .before .before .args .w .now) (c .before .before .before .before .before .before .before .before .before .before .before .before .before .args .out .now) _ (c .before .before .before .before .before .before .before .before .draw-words .ensures) (c .before .before .before .before .before .before .before .before .before .before .before .before .before .args .bytes .now) _ (c .before .before .before .before .before .before .before .part-at .ensures) _ _ (λ i. elements (c .before .before .before .before .before .before .word-at .ensures i) (c .before .before .before .before .before .word-at2 .ensures i) (c .before .before .before .before .word-at3 .ensures i)) (c .before .before .draw-elements-from-guest .ensures)
+returns c =
+    let a = c .before .before .before .before .before .before .before .before .before .before .before .before .before .args in
+    let draw-words = c .before .before .before .before .before .before .before .before .draw-words .ensures in
+    let part-at = c .before .before .before .before .before .before .before .part-at .ensures in
+    let word-at = c .before .before .before .before .before .before .word-at .ensures in
+    let word-at2 = c .before .before .before .before .before .word-at2 .ensures in
+    let word-at3 = c .before .before .before .before .word-at3 .ensures in
+    drew-in (a .w .now) (a .out .now) _ draw-words (a .bytes .now) _ part-at _ _ (λ i. elements (word-at i) (word-at2 i) (word-at3 i))
+    (c .before .before .draw-elements-from-guest .ensures)
 
 pub make-stored-draw-spec : {M : Type 1} → statement M
 make-stored-draw-spec =

@@ -5,7 +5,12 @@ use Rattle.driver.proofs.call.Statement.{statement}
 use Rattle.driver.proofs.call.Tie as tie
 
 returns : tie.Need-returns
-returns c = rw (sym (c .before .before .before .before .before .before .call-code .ensures), sym (c .before .before .before .before .before .before .before .before .before .before .made-words .ensures), sym (c .before .before .before .before .before .before .before .before .call-words .ensures)) (c .before .before .before .before .make-call .ensures)
+returns c =
+    let made-words = c .before .before .before .before .before .before .before .before .before .before .made-words .ensures in
+    let call-words = c .before .before .before .before .before .before .before .before .call-words .ensures in
+    let call-code = c .before .before .before .before .before .before .call-code .ensures in
+    let make-call = c .before .before .before .before .make-call .ensures in
+    rw (sym call-code, sym made-words, sym call-words) make-call
 
 pub call-spec : {M : Type 1} → statement M
 call-spec =

@@ -18,7 +18,10 @@ returns-2 c = rw (c .before .before .before .before .match .keys2) (c .before .b
 
 returns-3 : tie.Need-returns-3
 unfolding sourceOf
-returns-3 c = did-as (last-row (sourceRows (now (c .before .before .before .before .before .before .before .before .before .args .w))) _ _ (c .before .before .before .before .match .rest)) refl refl (c .before .before .draw-stored .ensures)
+returns-3 c =
+    let a = c .before .before .before .before .before .before .before .before .before .args in
+    let arm = c .before .before .before .before .match .rest in
+    did-as (last-row (sourceRows (now (a .w))) _ _ arm) refl refl (c .before .before .draw-stored .ensures)
 
 pub draw-spec : {M : Type 1} → statement M
 draw-spec =

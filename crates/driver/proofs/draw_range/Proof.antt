@@ -6,7 +6,12 @@ use Rattle.driver.proofs.draw_range.Statement.{statement}
 use Rattle.driver.proofs.draw_range.Tie as tie
 
 returns : tie.Need-returns
-returns c = did-as (λ i. range (c .before .before .before .before .before .word-at3 .ensures i) (c .before .before .before .before .word-at4 .ensures i)) (c .before .before .before .before .before .before .before .word-at .ensures) (c .before .before .before .before .before .before .word-at2 .ensures) (c .before .before .draw-arrays .ensures)
+returns c =
+    let word-at = c .before .before .before .before .before .before .before .word-at .ensures in
+    let word-at2 = c .before .before .before .before .before .before .word-at2 .ensures in
+    let word-at3 = c .before .before .before .before .before .word-at3 .ensures in
+    let word-at4 = c .before .before .before .before .word-at4 .ensures in
+    did-as (λ i. range (word-at3 i) (word-at4 i)) word-at word-at2 (c .before .before .draw-arrays .ensures)
 
 pub draw-range-spec : {M : Type 1} → statement M
 draw-range-spec =

@@ -6,7 +6,13 @@ use Rattle.driver.proofs.draw_stored.Statement.{statement}
 use Rattle.driver.proofs.draw_stored.Tie as tie
 
 returns : tie.Need-returns
-returns c = did-as (λ i. elements (c .before .before .before .before .before .before .word-at3 .ensures i) (c .before .before .before .before .before .word-at4 .ensures i) (c .before .before .before .before .word-at5 .ensures i)) (c .before .before .before .before .before .before .before .before .word-at .ensures) (c .before .before .before .before .before .before .before .word-at2 .ensures) (c .before .before .draw-elements-from-guest .ensures)
+returns c =
+    let word-at = c .before .before .before .before .before .before .before .before .word-at .ensures in
+    let word-at2 = c .before .before .before .before .before .before .before .word-at2 .ensures in
+    let word-at3 = c .before .before .before .before .before .before .word-at3 .ensures in
+    let word-at4 = c .before .before .before .before .before .word-at4 .ensures in
+    let word-at5 = c .before .before .before .before .word-at5 .ensures in
+    did-as (λ i. elements (word-at3 i) (word-at4 i) (word-at5 i)) word-at word-at2 (c .before .before .draw-elements-from-guest .ensures)
 
 pub draw-stored-spec : {M : Type 1} → statement M
 draw-stored-spec =

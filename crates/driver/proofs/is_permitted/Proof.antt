@@ -9,7 +9,9 @@ returns : tie.Need-returns
 returns c = rw (sym (c .before .is-made .ensures), not-true (c .before .is-made .result) (c .if1 .taken))
 
 returns-2 : tie.Need-returns-2
-returns-2 c = rw (sym (c .before .before .before .is-made .ensures), not-false (c .before .before .before .is-made .result) (c .before .before .if1 .left), sym (c .before .any-live .ensures)) (c .suits-state .ensures)
+returns-2 c =
+    let is-made = c .before .before .before .is-made in
+    rw (sym (is-made .ensures), not-false (is-made .result) (c .before .before .if1 .left), sym (c .before .any-live .ensures)) (c .suits-state .ensures)
 
 pub is-permitted-spec : {M : Type 1} → statement M
 is-permitted-spec =

@@ -47,7 +47,11 @@ loop-less : tie.Need-loop-less Inv-loop μ-loop
 loop-less c = omega arith
 
 loop-again : tie.Need-loop-again Inv-loop μ-loop
-loop-again c = (omega arith, fill-step (savedAt (now (c .before .before .before .before .before .args .w))) (c .before .before .loop .k) (replicate limit (c .before .before .before .matrix-at .result)) none (c .before .loop-test .taken) (c .before .before .loop .inv .1) (c .matrix-at2 .ensures))
+loop-again c =
+    let a = c .before .before .before .before .before .args in
+    let matrix-at = c .before .before .before .matrix-at .result in
+    let loop = c .before .before .loop in
+    (omega arith, fill-step (savedAt (now (a .w))) (loop .k) (replicate limit matrix-at) none (c .before .loop-test .taken) (loop .inv .1) (c .matrix-at2 .ensures))
 
 word-at-requires : tie.Need-word-at-requires Inv-loop μ-loop
 word-at-requires c κs = tt
@@ -56,7 +60,14 @@ cast-t14 : tie.Need-cast-t14 Inv-loop μ-loop
 cast-t14 c = omega arith
 
 returns : tie.Need-returns Inv-loop μ-loop
-returns c = let full : c .before .before .loop .k ≡ limit = omega arith in let saved : c .before .before .loop .saved ≡ tabulate (savedAt (now (c .before .before .before .before .before .args .w))) limit = c .before .before .loop .inv .1 ∙ ap (λ k. filledTo (savedAt (now (c .before .before .before .before .before .args .w))) k (replicate limit (c .before .before .before .matrix-at .result))) full ∙ append-nil _ in rw (c .before .before .before .matrix-at .ensures, saved, c .word-at .ensures)
+returns c =
+    let w = c .before .before .before .before .before .args .w in
+    let matrix-at = c .before .before .before .matrix-at in
+    let loop = c .before .before .loop in
+    let full : loop .k ≡ limit = omega arith in
+    let saved : loop .saved ≡ tabulate (savedAt (now w)) limit =
+    loop .inv .1 ∙ ap (λ k. filledTo (savedAt (now w)) k (replicate limit (matrix-at .result))) full ∙ append-nil _ in
+    rw (matrix-at .ensures, saved, c .word-at .ensures)
 
 pub stack-of-spec : {M : Type 1} → statement M
 stack-of-spec =

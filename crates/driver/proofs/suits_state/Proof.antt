@@ -22,7 +22,10 @@ returns-3 c = rw (c .before .match .keys3, sym (c .before .before .before .word-
 
 returns-4 : tie.Need-returns-4
 unfolding suits
-returns-4 c = rw (c .before .before .match .keys4, sym (c .before .before .before .before .word-at .ensures), sym (c .before .before .before .word-at2 .ensures), sym (c .before .word-at3 .ensures)) (c .is-few .ensures)
+returns-4 c =
+    let word-at = c .before .before .before .before .word-at .ensures in
+    let word-at2 = c .before .before .before .word-at2 .ensures in
+    rw (c .before .before .match .keys4, sym word-at, sym word-at2, sym (c .before .word-at3 .ensures)) (c .is-few .ensures)
 
 returns-5 : tie.Need-returns-5
 unfolding suits

@@ -16,7 +16,10 @@ returns-3 : tie.Need-returns-3
 returns-3 c = stopped _ (c .stop3 .ensures)
 
 returns-4 : tie.Need-returns-4
-returns-4 c = λ _. sound-kept (c .before .before .before .before .before .args .code) (c .before .before .before .before .before .args .n) (now (c .before .before .before .before .before .args .w)) (sym (c .before .before .before .fault-of .ensures) ∙ c .before .enum-told4 .given .1) (c .sound .ensures)
+returns-4 c =
+    let a = c .before .before .before .before .before .args in
+    let fault-of = c .before .before .before .fault-of .ensures in
+    λ _. sound-kept (a .code) (a .n) (now (a .w)) (sym fault-of ∙ c .before .enum-told4 .given .1) (c .sound .ensures)
 
 pub checked-spec : {M : Type 1} → statement M
 checked-spec =

@@ -7,7 +7,10 @@ use Rattle.reader.proofs.opening_of.Statement.{statement}
 use Rattle.reader.proofs.opening_of.Tie as tie
 
 returns : tie.Need-returns
-returns c = let size : length (c .before .before .before .before .args .t1) ≡ 8 = search needs in rw (two-words (c .before .before .before .before .args .t1) size (c .before .read-words .ensures))
+returns c =
+    let t1 = c .before .before .before .before .args .t1 in
+    let size : length t1 ≡ 8 = search needs in
+    rw (two-words t1 size (c .before .read-words .ensures))
 
 pub opening-of-spec : {M : Type 1} → statement M
 opening-of-spec =

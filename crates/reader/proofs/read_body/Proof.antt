@@ -13,7 +13,10 @@ slice-aggregate-read-full : tie.Need-slice-aggregate-read-full
 slice-aggregate-read-full c = sym (length-take-le (c .before .before .before .args .size) (c .before .before .before .args .body .now) (c .before .if1 .left))
 
 returns-2 : tie.Need-returns-2
-returns-2 c = λ _. rw (length-front (c .before .before .before .before .before .before .args .body .now) _ (c .before .before .before .before .before .before .args .size) (c .before .before .read-full .kept .1 .0)) (c .before .before .before .before .if1 .left)
+returns-2 c =
+    let a = c .before .before .before .before .before .before .args in
+    let if1 = c .before .before .before .before .if1 .left in
+    λ _. rw (length-front (a .body .now) _ (a .size) (c .before .before .read-full .kept .1 .0)) if1
 
 pub read-body-spec : {M : Type 1} → statement M
 read-body-spec =

@@ -20,7 +20,17 @@ returns-4 : tie.Need-returns-4
 returns-4 c = stopped _ (c .stop3 .ensures)
 
 returns-5 : tie.Need-returns-5
-returns-5 c = λ g. let n = c .before .before .before .before .before .before .before .before .before .before .before .before .before .before .before .before .opening-of .result .n in let fits = c .before .before .before .before .before .before .before .before .before .before .before .before .read-body .ensures (not-false (c .before .before .before .before .before .before .before .before .before .before .before .before .read-body .result) (c .before .before .before .before .before .before .before .before .before .if4 .left)) in read-from n _ (now (c .before .before .before .before .before .before .before .before .before .before .before .before .before .before .before .before .before .before .before .before .before .before .before .before .args .w)) _ fits (words-read _ (now (c .before .before .before .before .before .before .before .before .before .before .before .before .before .before .before .before .before .before .before .before .before .before .before .before .args .w)) n fits (c .before .before .before .before .before .before .before .bytes-at .ensures) (c .before .before .before .before .before .read-words .ensures)) (c .before .first-words .ensures) (c .checked .ensures g)
+returns-5 c =
+    let at-read-body = c .before .before .before .before .before .before .before .before .before .before .before .before in
+    let at-opening-of = at-read-body .before .before .before .before in
+    let w = now (at-opening-of .before .before .before .before .before .before .before .before .args .w) in
+    let n = at-opening-of .opening-of .result .n in
+    let read-body = at-read-body .read-body in
+    let if4 = c .before .before .before .before .before .before .before .before .before .if4 .left in
+    let fits = read-body .ensures (not-false (read-body .result) if4) in
+    let bytes-at = c .before .before .before .before .before .before .before .bytes-at .ensures in
+    let read-words = c .before .before .before .before .before .read-words .ensures in
+    λ g. read-from n _ w _ fits (words-read _ w n fits bytes-at read-words) (c .before .first-words .ensures) (c .checked .ensures g)
 
 pub read-record-spec : {M : Type 1} → statement M
 read-record-spec =

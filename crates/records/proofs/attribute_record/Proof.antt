@@ -7,7 +7,9 @@ use Rattle.records.proofs.attribute_record.Statement.{statement}
 use Rattle.records.proofs.attribute_record.Tie as tie
 
 returns : tie.Need-returns
-returns c = does-is (λ i. attribute (attributeOf (c .before .before .before .before .args .code) (c .before .before .word-at .ensures i) (c .before .four-floats .ensures i))) (c .make-attribute .ensures)
+returns c =
+    let a = c .before .before .before .before .args in
+    does-is (λ i. attribute (attributeOf (a .code) (c .before .before .word-at .ensures i) (c .before .four-floats .ensures i))) (c .make-attribute .ensures)
 
 pub attribute-record-spec : {M : Type 1} → statement M
 attribute-record-spec = tie.close (tie.spec (λ c κs. search needs) (λ c κs. search needs) (λ c κs. search needs) returns)

@@ -69,15 +69,21 @@ returns-14 c = of-each (λ code. eqb (c .before .args .n) 0 ≡ isRecord code (c
 
 returns-15 : tie.Need-returns-15
 unfolding isRecord
-returns-15 c = of-each (λ code. eqb (c .before .args .n) 1 ≡ isRecord code (c .before .args .n)) (0x10 ∷ 0x35 ∷ 0x40 ∷ 0x44 ∷ 0x47 ∷ []) _ (refl, (refl, (refl, (refl, (refl, tt))))) (c .match .keys15)
+returns-15 c =
+    let n = c .before .args .n in
+    of-each (λ code. eqb n 1 ≡ isRecord code n) (0x10 ∷ 0x35 ∷ 0x40 ∷ 0x44 ∷ 0x47 ∷ []) _ (refl, (refl, (refl, (refl, (refl, tt))))) (c .match .keys15)
 
 returns-16 : tie.Need-returns-16
 unfolding isRecord
-returns-16 c = of-each (λ code. eqb (c .before .args .n) 2 ≡ isRecord code (c .before .args .n)) (0x20 ∷ 0x34 ∷ 0x41 ∷ 0x45 ∷ 0x49 ∷ []) _ (refl, (refl, (refl, (refl, (refl, tt))))) (c .match .keys16)
+returns-16 c =
+    let n = c .before .args .n in
+    of-each (λ code. eqb n 2 ≡ isRecord code n) (0x20 ∷ 0x34 ∷ 0x41 ∷ 0x45 ∷ 0x49 ∷ []) _ (refl, (refl, (refl, (refl, (refl, tt))))) (c .match .keys16)
 
 returns-17 : tie.Need-returns-17
 unfolding isRecord
-returns-17 c = of-each (λ code. eqb (c .before .args .n) 2 ≡ isRecord code (c .before .args .n)) (0x21 ∷ 0x42 ∷ 0x46 ∷ 0x4a ∷ []) _ (refl, (refl, (refl, (refl, tt)))) (c .match .keys17)
+returns-17 c =
+    let n = c .before .args .n in
+    of-each (λ code. eqb n 2 ≡ isRecord code n) (0x21 ∷ 0x42 ∷ 0x46 ∷ 0x4a ∷ []) _ (refl, (refl, (refl, (refl, tt)))) (c .match .keys17)
 
 returns-18 : tie.Need-returns-18
 unfolding isRecord
@@ -85,7 +91,9 @@ returns-18 c = of-each (λ code. eqb (c .before .args .n) 3 ≡ isRecord code (c
 
 returns-19 : tie.Need-returns-19
 unfolding isRecord
-returns-19 c = of-each (λ code. eqb (c .before .args .n) 4 ≡ isRecord code (c .before .args .n)) (0x30 ∷ 0x33 ∷ 0x36 ∷ 0x43 ∷ []) _ (refl, (refl, (refl, (refl, tt)))) (c .match .keys19)
+returns-19 c =
+    let n = c .before .args .n in
+    of-each (λ code. eqb n 4 ≡ isRecord code n) (0x30 ∷ 0x33 ∷ 0x36 ∷ 0x43 ∷ []) _ (refl, (refl, (refl, (refl, tt)))) (c .match .keys19)
 
 returns-20 : tie.Need-returns-20
 unfolding isRecord
@@ -93,7 +101,18 @@ returns-20 c = of-each (λ code. eqb (c .before .args .n) 6 ≡ isRecord code (c
 
 returns-21 : tie.Need-returns-21
 unfolding isRecord
-returns-21 c = sym (ap (λ o. isSize o (c .before .args .n)) (misses (recordSizes (c .before .args .n)) _ (apart {A = ℕ} _ (0x1a names 6 ∷ 0x24 names 6 ∷ []) _ (apart {A = ℕ} _ (0x30 names 4 ∷ 0x33 names 4 ∷ 0x36 names 4 ∷ 0x43 names 4 ∷ []) _ (apart {A = ℕ} _ (0x16 names 3 ∷ 0x32 names 3 ∷ 0x37 names 3 ∷ []) _ (apart {A = ℕ} _ (0x21 names 2 ∷ 0x42 names 2 ∷ 0x46 names 2 ∷ 0x4a names 2 ∷ []) _ (apart {A = ℕ} _ (0x20 names 2 ∷ 0x34 names 2 ∷ 0x41 names 2 ∷ 0x45 names 2 ∷ 0x49 names 2 ∷ []) _ (apart {A = ℕ} _ (0x10 names 1 ∷ 0x35 names 1 ∷ 0x40 names 1 ∷ 0x44 names 1 ∷ 0x47 names 1 ∷ []) _ (apart {A = ℕ} _ (0x11 names 0 ∷ 0x14 names 0 ∷ 0x50 names 0 ∷ []) _ (c .match .rest .0 .0 .0 .0 .0 .0 .0) (c .match .rest .0 .0 .0 .0 .0 .0 .1)) (c .match .rest .0 .0 .0 .0 .0 .1)) (c .match .rest .0 .0 .0 .0 .1)) (c .match .rest .0 .0 .0 .1)) (c .match .rest .0 .0 .1)) (c .match .rest .0 .1)) (c .match .rest .1))))
+returns-21 c =
+    let n = c .before .args .n in
+    let rest = c .match .rest in
+    sym (ap (λ o. isSize o n) (misses (recordSizes n) _
+    (apart {A = ℕ} _ (0x1a names 6 ∷ 0x24 names 6 ∷ []) _
+    (apart {A = ℕ} _ (0x30 names 4 ∷ 0x33 names 4 ∷ 0x36 names 4 ∷ 0x43 names 4 ∷ []) _
+    (apart {A = ℕ} _ (0x16 names 3 ∷ 0x32 names 3 ∷ 0x37 names 3 ∷ []) _
+    (apart {A = ℕ} _ (0x21 names 2 ∷ 0x42 names 2 ∷ 0x46 names 2 ∷ 0x4a names 2 ∷ []) _
+    (apart {A = ℕ} _ (0x20 names 2 ∷ 0x34 names 2 ∷ 0x41 names 2 ∷ 0x45 names 2 ∷ 0x49 names 2 ∷ []) _
+    (apart {A = ℕ} _ (0x10 names 1 ∷ 0x35 names 1 ∷ 0x40 names 1 ∷ 0x44 names 1 ∷ 0x47 names 1 ∷ []) _
+    (apart {A = ℕ} _ (0x11 names 0 ∷ 0x14 names 0 ∷ 0x50 names 0 ∷ []) _
+    (rest .0 .0 .0 .0 .0 .0 .0) (rest .0 .0 .0 .0 .0 .0 .1)) (rest .0 .0 .0 .0 .0 .1)) (rest .0 .0 .0 .0 .1)) (rest .0 .0 .0 .1)) (rest .0 .0 .1)) (rest .0 .1)) (rest .1))))
 
 pub is-record-spec : {M : Type 1} → statement M
 is-record-spec =

@@ -29,7 +29,9 @@ returns-5 c = rw (c .before .match .keys5) (c .set-client-state .ensures)
 
 returns-6 : tie.Need-returns-6
 unfolding arrayOf
-returns-6 c = does-is (ap (λ k. object (array k)) (last-row (arrayRows (c .before .before .args .a) (c .before .before .args .b) (c .before .before .args .d) (c .before .before .args .e)) _ _ (c .before .match .rest))) (c .set-client-active-texture .ensures)
+returns-6 c =
+    let a = c .before .before .args in
+    does-is (ap (λ k. object (array k)) (last-row (arrayRows (a .a) (a .b) (a .d) (a .e)) _ _ (c .before .match .rest))) (c .set-client-active-texture .ensures)
 
 pub make-array-spec : {M : Type 1} → statement M
 make-array-spec =

@@ -13,7 +13,9 @@ returns c = rw (c .before .match .keys1) (c .set-color .ensures)
 
 returns-2 : tie.Need-returns-2
 unfolding attributeOf
-returns-2 c = does-is (ap attribute (last-row (attributeRows (c .before .before .args .a) (c .before .before .args .t4)) _ _ (c .before .match .rest))) (c .set-multi-texcoord .ensures)
+returns-2 c =
+    let a = c .before .before .args in
+    does-is (ap attribute (last-row (attributeRows (a .a) (a .t4)) _ _ (c .before .match .rest))) (c .set-multi-texcoord .ensures)
 
 pub make-attribute-spec : {M : Type 1} → statement M
 make-attribute-spec =

@@ -49,7 +49,9 @@ returns-10 c = rw (c .before .match .keys10) (c .set-fog .ensures)
 
 returns-11 : tie.Need-returns-11
 unfolding pipelineOf
-returns-11 c = does-is (ap pipeline (last-row (pipelineRows (c .before .before .args .a) (c .before .before .args .b) (c .before .before .args .t5)) _ _ (c .before .match .rest))) (c .set-depth-range .ensures)
+returns-11 c =
+    let a = c .before .before .args in
+    does-is (ap pipeline (last-row (pipelineRows (a .a) (a .b) (a .t5)) _ _ (c .before .match .rest))) (c .set-depth-range .ensures)
 
 pub make-pipeline-spec : {M : Type 1} → statement M
 make-pipeline-spec =

@@ -10,7 +10,9 @@ returns : tie.Need-returns
 returns c = not-going _ (not-true _ (c .if1 .taken))
 
 returns-2 : tie.Need-returns-2
-returns-2 c = λ e. comes (c .before .before .before .before .before .before .before .before .before .before .read-record .ensures e) _ (c .before .before .first-words .ensures) _ (c .before .is-permitted .ensures) (c .if2 .taken)
+returns-2 c =
+    let read-record = c .before .before .before .before .before .before .before .before .before .before .read-record .ensures in
+    λ e. comes (read-record e) _ (c .before .before .first-words .ensures) _ (c .before .is-permitted .ensures) (c .if2 .taken)
 
 returns-3 : tie.Need-returns-3
 returns-3 c = not-going _ refl

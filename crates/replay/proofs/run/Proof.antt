@@ -46,13 +46,31 @@ use-stacks-requires : tie.Need-use-stacks-requires Inv-loop μ-loop
 use-stacks-requires c κs = tt
 
 add-record : tie.Need-add-record Inv-loop μ-loop
-add-record c = omega (arith, c .before .before .before .before .before .before .before .before .before .before .before .before .before .before .before .before .before .before .before .before .before .before .before .before .loop-test .taken)
+add-record c =
+    let at-first-words = c .before .before .before .before .before .before .before .before .before .before .before .before in
+    omega (arith, at-first-words .before .before .before .before .before .before .before .before .before .before .before .before .loop-test .taken)
 
 loop-less : tie.Need-loop-less Inv-loop μ-loop
-loop-less c = omega (arith, c .before .before .before .before .before .before .before .before .before .before .before .before .before .before .before .before .before .before .before .before .before .before .before .before .loop-test .taken)
+loop-less c =
+    let at-first-words = c .before .before .before .before .before .before .before .before .before .before .before .before in
+    omega (arith, at-first-words .before .before .before .before .before .before .before .before .before .before .before .before .loop-test .taken)
 
 loop-again : tie.Need-loop-again Inv-loop μ-loop
-loop-again c = (c .before .before .before .before .before .before .before .before .perform .kept .1 .1 .1 .1 .1 .0 ∙ c .before .before .before .before .before .before .before .before .before .before .before .before .before .before .before .before .before .before .before .before .before .before .before .before .before .loop .inv .0, c .before .before .before .before .before .before .before .before .perform .kept .1 .1 .1 .1 .1 .1 .0 ∙ c .before .before .before .before .before .before .before .before .before .before .before .before .before .before .before .before .before .before .before .before .before .before .before .before .before .loop .inv .1, c .before .before .before .before .before .before .before .before .perform .kept .1 .1 .1 .1 .1 .1 .1 .0 ∙ c .before .before .before .before .before .before .before .before .before .before .before .before .before .before .before .before .before .before .before .before .before .before .before .before .before .loop .inv .2, c .before .before .before .before .before .before .before .before .before .before .before .before .before .before .before .before .before .before .before .before .before .next-record .kept .1 .1 .1 .0 ∙ c .before .before .before .before .before .before .before .before .before .before .before .before .before .before .before .before .before .before .before .before .before .before .before .before .before .loop .inv .3, c .before .before .before .before .before .before .before .before .before .before .before .before .before .before .before .before .before .before .before .before .before .next-record .kept .1 .1 .1 .1 .0 ∙ c .before .before .before .before .before .before .before .before .before .before .before .before .before .before .before .before .before .before .before .before .before .before .before .before .before .loop .inv .4, follows _ _ _ _ (c .before .before .before .before .before .before .before .before .before .before .before .before .before .before .before .before .before .before .before .before .before .before .before .before .before .loop .inv .5) (c .before .before .before .before .before .before .before .before .before .before .before .before .before .before .before .before .before .before .before .before .before .next-record .ensures (not-false _ (c .before .before .before .before .before .before .before .before .before .before .before .before .before .before .before .if1 .left))) (c .before .before .before .before .before .before .before .before .before .before .before .before .before .first-words .ensures) (c .before .before .before .before .before .before .before .before .perform .ensures) (c .before .after .ensures) (c .use-stacks .ensures))
+loop-again c =
+    let at-perform = c .before .before .before .before .before .before .before .before in
+    let at-next-record = at-perform .before .before .before .before .before .before .before .before .before .before .before .before .before in
+    let inv = at-next-record .before .before .before .before .loop .inv in
+    let next-record = at-next-record .next-record in
+    let if1 = at-perform .before .before .before .before .before .before .before .if1 .left in
+    let first-words = at-perform .before .before .before .before .before .first-words .ensures in
+    let perform = at-perform .perform in (
+      perform .kept .1 .1 .1 .1 .1 .0 ∙ inv .0,
+      perform .kept .1 .1 .1 .1 .1 .1 .0 ∙ inv .1,
+      perform .kept .1 .1 .1 .1 .1 .1 .1 .0 ∙ inv .2,
+      next-record .kept .1 .1 .1 .0 ∙ inv .3,
+      next-record .kept .1 .1 .1 .1 .0 ∙ inv .4,
+      follows _ _ _ _ (inv .5) (next-record .ensures (not-false _ if1)) first-words (perform .ensures) (c .before .after .ensures) (c .use-stacks .ensures),
+    )
 
 same-length : tie.Need-same-length Inv-loop μ-loop
 same-length c = c .before .loop .inv .0
@@ -82,10 +100,16 @@ same-length-8 : tie.Need-same-length-8 Inv-loop μ-loop
 same-length-8 c = c .before .before .before .before .before .before .before .before .before .before .loop .inv .2
 
 same-length-9 : tie.Need-same-length-9 Inv-loop μ-loop
-same-length-9 c = c .before .before .before .before .before .before .next-record .kept .1 .1 .1 .0 ∙ c .before .before .before .before .before .before .before .before .before .before .loop .inv .3
+same-length-9 c =
+    let inv = c .before .before .before .before .before .before .before .before .before .before .loop .inv .3 in
+    let next-record = c .before .before .before .before .before .before .next-record .kept .1 .1 .1 .0 in
+    next-record ∙ inv
 
 same-length-10 : tie.Need-same-length-10 Inv-loop μ-loop
-same-length-10 c = c .before .before .before .before .before .before .next-record .kept .1 .1 .1 .1 .0 ∙ c .before .before .before .before .before .before .before .before .before .before .loop .inv .4
+same-length-10 c =
+    let inv = c .before .before .before .before .before .before .before .before .before .before .loop .inv .4 in
+    let next-record = c .before .before .before .before .before .before .next-record .kept .1 .1 .1 .1 .0 in
+    next-record ∙ inv
 
 returns-2 : tie.Need-returns-2 Inv-loop μ-loop
 returns-2 c = record { context = _; borrowed = _; stacks = _; replayed = c .before .before .before .before .before .before .before .before .before .before .loop .inv .5 }

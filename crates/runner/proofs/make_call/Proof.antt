@@ -7,10 +7,17 @@ use Rattle.runner.proofs.make_call.Statement.{statement}
 use Rattle.runner.proofs.make_call.Tie as tie
 
 returns : tie.Need-returns
-returns c = no-record-call (c .before .before .before .before .before .before .args .bytes .now) _ (c .before .before .before .before .before .before .args .code) (c .before .before .before .before .before .before .args .w .now) (sym (c .before .is-record .ensures) ∙ not-true _ (c .if1 .taken))
+returns c =
+    let a = c .before .before .before .before .before .before .args in
+    no-record-call (a .bytes .now) _ (a .code) (a .w .now) (sym (c .before .is-record .ensures) ∙ not-true _ (c .if1 .taken))
 
 returns-2 : tie.Need-returns-2
-returns-2 c = a-record-call (c .before .before .before .before .before .before .before .before .before .before .before .before .before .args .bytes .now) _ (c .before .before .before .before .before .before .before .before .before .before .before .before .before .args .code) (c .before .before .before .before .before .before .before .before .before .before .before .before .before .args .w .now) (sym (c .before .before .before .before .before .before .before .before .is-record .ensures) ∙ not-false _ (c .before .before .before .before .before .before .before .if1 .left)) (c .before .before .before .before .perform .ensures)
+returns-2 c =
+    let a = c .before .before .before .before .before .before .before .before .before .before .before .before .before .args in
+    let is-record = c .before .before .before .before .before .before .before .before .is-record .ensures in
+    let if1 = c .before .before .before .before .before .before .before .if1 .left in
+    let perform = c .before .before .before .before .perform .ensures in
+    a-record-call (a .bytes .now) _ (a .code) (a .w .now) (sym is-record ∙ not-false _ if1) perform
 
 pub make-call-spec : {M : Type 1} → statement M
 make-call-spec =

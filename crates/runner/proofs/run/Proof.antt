@@ -17,8 +17,9 @@ same-length-2 c = c .before .before .before .before .before .run-on .kept .1 .1 
 
 returns-2 : tie.Need-returns-2
 returns-2 c =
+    let fresh = c .before .before .before .before .before .before .before .before .before .new .ensures in
     let whole = c .before .before .before .before .before .before .before .before .if1 .left in
-    let ran = continues (start (c .before .before .before .before .before .before .before .before .before .new .ensures) whole) (c .before .before .before .before .before .run-on .ensures) in
+    let ran = continues (start fresh whole) (c .before .before .before .before .before .run-on .ensures) in
     record { refused = λ n. absurd (n whole); ran = λ _. (refl, ran .read, ran .history, ran .output) }
 
 pub run-spec : {M : Type 1} → statement M

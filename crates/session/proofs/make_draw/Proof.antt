@@ -5,7 +5,10 @@ use Rattle.session.proofs.make_draw.Statement.{statement}
 use Rattle.session.proofs.make_draw.Tie as tie
 
 returns : tie.Need-returns
-returns c = record { reply = _; did = rw (c .before .before .before .before .before .before .before .before .before .before .before .before .before .before .mark .ensures) at (c .before .before .before .before .before .before .before .before .before .before .draw .ensures); context = refl }
+returns c =
+    let mark = c .before .before .before .before .before .before .before .before .before .before .before .before .before .before .mark .ensures in
+    let draw = c .before .before .before .before .before .before .before .before .before .before .draw .ensures in
+    record { reply = _; did = rw mark at draw; context = refl }
 
 pub make-draw-spec : {M : Type 1} → statement M
 make-draw-spec =

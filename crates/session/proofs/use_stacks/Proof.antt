@@ -13,7 +13,11 @@ returns-2 : tie.Need-returns-2
 returns-2 c = no-slot _ _ _ _ (c .before .before .before .word-at .ensures) (sym (c .before .before .is-stack .ensures) ∙ not-false _ (c .before .if1 .left)) (c .if2 .taken)
 
 returns-3 : tie.Need-returns-3
-returns-3 c = put _ _ _ _ (c .before .before .before .before .before .word-at .ensures) (sym (c .before .before .before .before .is-stack .ensures) ∙ not-false _ (c .before .before .before .if1 .left)) (c .before .before .if2 .left) _ (c .use-stack .ensures)
+returns-3 c =
+    let word-at = c .before .before .before .before .before .word-at .ensures in
+    let is-stack = c .before .before .before .before .is-stack .ensures in
+    let if1 = c .before .before .before .if1 .left in
+    put _ _ _ _ word-at (sym is-stack ∙ not-false _ if1) (c .before .before .if2 .left) _ (c .use-stack .ensures)
 
 pub use-stacks-spec : {M : Type 1} → statement M
 use-stacks-spec =

@@ -8,7 +8,11 @@ returns : tie.Need-returns
 returns c = again-refused (c .before .before .before .before .before .before .run .ensures) _ _ (c .if1 .taken)
 
 returns-2 : tie.Need-returns-2
-returns-2 c = again-ran (c .before .before .before .before .before .before .before .before .before .before .before .before .before .before .run .ensures) _ _ (c .before .before .before .before .before .before .before .before .if1 .left) (c .before .before .before .before .before .before .before .before .before .before .before .before .before .before .run .kept .1 .1 .1 .0) (c .before .before .before .before .repeat .ensures)
+returns-2 c =
+    let run = c .before .before .before .before .before .before .before .before .before .before .before .before .before .before .run in
+    let if1 = c .before .before .before .before .before .before .before .before .if1 .left in
+    let repeat = c .before .before .before .before .repeat .ensures in
+    again-ran (run .ensures) _ _ if1 (run .kept .1 .1 .1 .0) repeat
 
 pub beonasul-repeat-spec : {M : Type 1} → statement M
 beonasul-repeat-spec =

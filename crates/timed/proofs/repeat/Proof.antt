@@ -13,7 +13,9 @@ use Rattle.timed.proofs.repeat.Statement.{statement}
 use Rattle.timed.proofs.repeat.Tie as tie
 
 abbrev Inv-loop : tie.InvT-loop
-Inv-loop words times bytes store₀ out₀ c₀ i₀ store out c i = ((before : List Call) → History before c₀ store₀ → Repeats before i words bytes out₀ c store out) × (i ≤ times) × (length store ≡ length store₀) × (length out ≡ length out₀)
+Inv-loop words times bytes store₀ out₀ c₀ i₀ store out c i =
+    ((before : List Call) → History before c₀ store₀ → Repeats before i words bytes out₀ c store out)
+    × (i ≤ times) × (length store ≡ length store₀) × (length out ≡ length out₀)
 
 abbrev μ-loop : tie.MeasureT-loop
 μ-loop words times bytes store₀ out₀ c₀ i₀ store out c i = times - i
@@ -31,12 +33,15 @@ loop-less : tie.Need-loop-less Inv-loop μ-loop
 loop-less c = omega (arith, c .before .before .before .before .before .before .before .before .loop-test .taken)
 
 loop-again : tie.Need-loop-again Inv-loop μ-loop
-loop-again c = (
-  λ before h. repeats-next (c .before .before .before .before .before .before .before .before .before .loop .inv .3) (c .before .before .before .before .before .before .before .before .before .loop .inv .0 before h) (c .before .before .before .before .before .run-on .ensures),
-  omega (arith, c .before .before .before .before .before .before .before .before .loop-test .taken),
-  c .before .before .before .before .before .run-on .kept .1 .1 .1 .0 ∙ c .before .before .before .before .before .before .before .before .before .loop .inv .2,
-  c .before .before .before .before .before .run-on .kept .1 .1 .1 .1 .0 ∙ c .before .before .before .before .before .before .before .before .before .loop .inv .3,
-)
+loop-again c =
+    let inv = c .before .before .before .before .before .before .before .before .before .loop .inv in
+    let less = c .before .before .before .before .before .before .before .before .loop-test .taken in
+    let run-on = c .before .before .before .before .before .run-on in (
+      λ before h. repeats-next (inv .3) (inv .0 before h) (run-on .ensures),
+      omega (arith, less),
+      run-on .kept .1 .1 .1 .0 ∙ inv .2,
+      run-on .kept .1 .1 .1 .1 .0 ∙ inv .3,
+    )
 
 same-length : tie.Need-same-length Inv-loop μ-loop
 same-length c = c .before .loop .inv .2

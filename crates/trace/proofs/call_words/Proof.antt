@@ -32,7 +32,9 @@ returns-6 c = rw (c .before .match .keys6) (c .first-words4 .ensures)
 
 returns-7 : tie.Need-returns-7
 unfolding callWords
-returns-7 c = last-row (callRows (now (c .before .before .before .args .w)) (now (c .before .before .before .args .made))) (c .before .before .before .args .code) (now (c .before .before .before .args .w)) (c .match .rest)
+returns-7 c =
+    let a = c .before .before .before .args in
+    last-row (callRows (now (a .w)) (now (a .made))) (a .code) (now (a .w)) (c .match .rest)
 
 pub call-words-spec : {M : Type 1} → statement M
 call-words-spec =

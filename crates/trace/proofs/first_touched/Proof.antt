@@ -29,7 +29,10 @@ mark-bits-requires : tie.Need-mark-bits-requires Inv-loop μ-loop
 mark-bits-requires c κs = tt
 
 returns : tie.Need-returns Inv-loop μ-loop
-returns c = (c .before .before .before .before .before .loop .inv .0, (c .before .before .before .before .before .loop .inv .1, λ l. touched-is (now (c .before .before .before .before .before .before .before .args .out)) (c .before .before .before .before .before .loop .i) (c .before .before .bits-of-f32 .ensures) (c .before .mark-bits .ensures) (c .if1 .taken)))
+returns c =
+    let a = c .before .before .before .before .before .before .before .args in
+    let loop = c .before .before .before .before .before .loop in
+    (loop .inv .0, (loop .inv .1, λ l. touched-is (now (a .out)) (loop .i) (c .before .before .bits-of-f32 .ensures) (c .before .mark-bits .ensures) (c .if1 .taken)))
 
 add-i : tie.Need-add-i Inv-loop μ-loop
 add-i c = omega (arith, c .before .before .before .before .loop-test .taken)
@@ -38,7 +41,13 @@ loop-less : tie.Need-loop-less Inv-loop μ-loop
 loop-less c = omega (arith, c .before .before .before .before .loop-test .taken)
 
 loop-again : tie.Need-loop-again Inv-loop μ-loop
-loop-again c = (omega (arith, c .before .before .before .before .before .loop .inv .0), marked-more (now (c .before .before .before .before .before .before .before .args .out)) (c .before .before .before .before .before .before .before .args .start) (c .before .before .before .before .before .loop .i) (c .before .before .before .before .before .loop .inv .1) (marked-is (now (c .before .before .before .before .before .before .before .args .out)) (c .before .before .before .before .before .loop .i) (c .before .before .bits-of-f32 .ensures) (c .before .mark-bits .ensures) (c .if1 .left)))
+loop-again c =
+    let a = c .before .before .before .before .before .before .before .args in
+    let loop = c .before .before .before .before .before .loop in (
+      omega (arith, loop .inv .0),
+      marked-more (now (a .out)) (a .start) (loop .i) (loop .inv .1)
+          (marked-is (now (a .out)) (loop .i) (c .before .before .bits-of-f32 .ensures) (c .before .mark-bits .ensures) (c .if1 .left)),
+    )
 
 returns-2 : tie.Need-returns-2 Inv-loop μ-loop
 returns-2 c = (c .before .loop .inv .0, (c .before .loop .inv .1, λ l. absurd (omega (arith, l, c .loop-test .left))))

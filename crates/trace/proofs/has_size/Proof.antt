@@ -102,7 +102,9 @@ returns-23 c = rw (c .match .keys23)
 
 returns-24 : tie.Need-returns-24
 unfolding hasSize
-returns-24 c = c .is-record .ensures ∙ sym (ap (λ o. sizeOr o (c .before .before .args .n) (isRecord (c .before .before .args .code) (c .before .before .args .n))) (misses (sizes (c .before .before .args .n) (c .before .before .args .t3)) _ (c .before .match .rest)))
+returns-24 c =
+    let a = c .before .before .args in
+    c .is-record .ensures ∙ sym (ap (λ o. sizeOr o (a .n) (isRecord (a .code) (a .n))) (misses (sizes (a .n) (a .t3)) _ (c .before .match .rest)))
 
 pub has-size-spec : {M : Type 1} → statement M
 has-size-spec =

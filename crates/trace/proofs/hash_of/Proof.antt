@@ -34,7 +34,11 @@ loop-less : tie.Need-loop-less Inv-loop μ-loop
 loop-less c = omega (arith, c .before .before .loop-test .taken)
 
 loop-again : tie.Need-loop-again Inv-loop μ-loop
-loop-again c = (omega (arith, c .before .before .loop-test .taken), hash-more 0x811c9dc5 (now (c .before .before .before .before .before .args .bytes)) (c .before .before .before .loop .i) (c .before .before .loop-test .taken) (c .before .before .before .loop .inv .1) (c .hash-step .ensures))
+loop-again c =
+    let a = c .before .before .before .before .before .args in
+    let loop = c .before .before .before .loop in
+    let loop-test = c .before .before .loop-test .taken in
+    (omega (arith, loop-test), hash-more 0x811c9dc5 (now (a .bytes)) (loop .i) loop-test (loop .inv .1) (c .hash-step .ensures))
 
 returns : tie.Need-returns Inv-loop μ-loop
 returns c = c .before .loop .inv .1 ∙ ap hash (take-all (c .before .loop .i) (now (c .before .before .before .args .bytes)) (c .loop-test .left))

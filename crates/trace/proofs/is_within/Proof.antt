@@ -20,7 +20,10 @@ returns-4 : tie.Need-returns-4
 returns-4 c = rw (below _ _ (c .before .before .before .if1 .left), below _ _ (c .before .before .if2 .left), below _ _ (c .before .if3 .left)) (above _ _ _ (c .if4 .taken))
 
 returns-5 : tie.Need-returns-5
-returns-5 c = rw (below _ _ (c .before .before .before .if1 .left), below _ _ (c .before .before .if2 .left), below _ _ (c .before .if3 .left), below _ _ (c .if4 .left)) (last-test (wordAt (c .before .before .before .before .args .t1) 0) (wordAt (c .before .before .before .before .args .t2) 0))
+returns-5 c =
+    let a = c .before .before .before .before .args in
+    let if1 = c .before .before .before .if1 .left in
+    rw (below _ _ if1, below _ _ (c .before .before .if2 .left), below _ _ (c .before .if3 .left), below _ _ (c .if4 .left)) (last-test (wordAt (a .t1) 0) (wordAt (a .t2) 0))
 
 pub is-within-spec : {M : Type 1} → statement M
 is-within-spec =

@@ -12,7 +12,10 @@ returns c = rw (c .match .keys1, c .before .before .before .before .word-at .ens
 
 returns-2 : tie.Need-returns-2
 unfolding madeWords
-returns-2 c = rw (c .match .keys2, c .before .before .before .before .word-at .ensures, c .before .before .before .word-at2 .ensures, c .before .before .word-at3 .ensures, c .before .word-at4 .ensures)
+returns-2 c =
+    let word-at = c .before .before .before .before .word-at .ensures in
+    let word-at2 = c .before .before .before .word-at2 .ensures in
+    rw (c .match .keys2, word-at, word-at2, c .before .before .word-at3 .ensures, c .before .word-at4 .ensures)
 
 returns-3 : tie.Need-returns-3
 unfolding madeWords
@@ -20,7 +23,9 @@ returns-3 c = rw (c .match .keys3, c .before .before .before .before .word-at .e
 
 returns-4 : tie.Need-returns-4
 unfolding madeWords
-returns-4 c = last-row (madeRows (now (c .before .before .before .before .before .before .args .w))) (c .before .before .before .before .before .before .args .code) identityWords (c .match .rest)
+returns-4 c =
+    let a = c .before .before .before .before .before .before .args in
+    last-row (madeRows (now (a .w))) (a .code) identityWords (c .match .rest)
 
 pub made-words-spec : {M : Type 1} → statement M
 made-words-spec =

@@ -40,13 +40,23 @@ loop-less : tie.Need-loop-less Inv-loop μ-loop
 loop-less c = omega (arith, c .before .loop-test .taken, len (c .before .before))
 
 loop-again : tie.Need-loop-again Inv-loop μ-loop
-loop-again c = (omega (arith, c .before .loop-test .taken, len (c .before .before)), fill-step (λ k. ofBits binary32 (markBits k)) (c .before .before .loop .i) (now (c .before .before .before .before .args .out)) (ofBits binary32 0) (omega (arith, c .before .loop-test .taken, len (c .before .before))) (c .before .before .loop .inv .1) (c .mark-at .ensures))
+loop-again c =
+    let a = c .before .before .before .before .args in
+    let loop = c .before .before .loop in
+    let loop-test = c .before .loop-test .taken in (
+      omega (arith, loop-test, len (c .before .before)),
+      fill-step (λ k. ofBits binary32 (markBits k)) (loop .i) (now (a .out)) (ofBits binary32 0) (omega (arith, loop-test, len (c .before .before)))
+          (loop .inv .1) (c .mark-at .ensures),
+    )
 
 same-length : tie.Need-same-length Inv-loop μ-loop
 same-length c = len (c .before)
 
 returns : tie.Need-returns Inv-loop μ-loop
-returns c = c .before .loop .inv .1 ∙ ap (λ k. filledTo (λ j. ofBits binary32 (markBits j)) k (now (c .before .before .before .args .out))) (omega (arith, c .loop-test .left, c .before .loop .inv .0, len (c .before)))
+returns c =
+    let a = c .before .before .before .args in
+    let inv = c .before .loop .inv in
+    inv .1 ∙ ap (λ k. filledTo (λ j. ofBits binary32 (markBits j)) k (now (a .out))) (omega (arith, c .loop-test .left, inv .0, len (c .before)))
 
 pub mark-spec : {M : Type 1} → statement M
 mark-spec =

@@ -17,7 +17,9 @@ abbrev μ-loop : tie.MeasureT-loop
 
 -- the length stays
 len : (c : tie.At-loop Inv-loop μ-loop) → length (c .loop .w) ≡ length (now (c .before .before .before .before .args .w))
-len c = ap length (c .loop .inv .1) ∙ length-filled (wordOf (now (c .before .before .before .before .args .bytes))) (c .loop .i) (now (c .before .before .before .before .args .w)) (omega (arith, c .loop .inv .0, c .before .smaller .ensures))
+len c =
+    let a = c .before .before .before .before .args in
+    ap length (c .loop .inv .1) ∙ length-filled (wordOf (now (a .bytes))) (c .loop .i) (now (a .w)) (omega (arith, c .loop .inv .0, c .before .smaller .ensures))
 
 smaller-requires : tie.Need-smaller-requires Inv-loop μ-loop
 smaller-requires c κs = tt
@@ -42,13 +44,21 @@ loop-less : tie.Need-loop-less Inv-loop μ-loop
 loop-less c = omega (arith, c .before .loop-test .taken)
 
 loop-again : tie.Need-loop-again Inv-loop μ-loop
-loop-again c = (omega (arith, c .before .loop-test .taken), fill-step (wordOf (now (c .before .before .before .before .before .before .args .bytes))) (c .before .before .loop .i) (now (c .before .before .before .before .before .before .args .w)) 0 (omega (arith, c .before .loop-test .taken, c .before .before .before .smaller .ensures)) (c .before .before .loop .inv .1) (c .word-of .ensures))
+loop-again c =
+    let a = c .before .before .before .before .before .before .args in
+    let smaller = c .before .before .before .smaller .ensures in
+    let loop = c .before .before .loop in
+    let loop-test = c .before .loop-test .taken in
+    (omega (arith, loop-test), fill-step (wordOf (now (a .bytes))) (loop .i) (now (a .w)) 0 (omega (arith, loop-test, smaller)) (loop .inv .1) (c .word-of .ensures))
 
 same-length : tie.Need-same-length Inv-loop μ-loop
 same-length c = len (c .before)
 
 returns : tie.Need-returns Inv-loop μ-loop
-returns c = c .before .loop .inv .1 ∙ ap (λ k. filledTo (wordOf (now (c .before .before .before .before .before .args .bytes))) k (now (c .before .before .before .before .before .args .w))) (omega (arith, c .loop-test .left, c .before .loop .inv .0) ∙ c .before .before .smaller .ensures)
+returns c =
+    let a = c .before .before .before .before .before .args in
+    let inv = c .before .loop .inv in
+    inv .1 ∙ ap (λ k. filledTo (wordOf (now (a .bytes))) k (now (a .w))) (omega (arith, c .loop-test .left, inv .0) ∙ c .before .before .smaller .ensures)
 
 pub read-words-spec : {M : Type 1} → statement M
 read-words-spec =

@@ -9,7 +9,11 @@ use Rattle.trace.proofs.word_of.Statement.{statement}
 use Rattle.trace.proofs.word_of.Tie as tie
 
 returns : tie.Need-returns
-returns c = le-part 4 (now (c .before .before .before .before .before .before .args .bytes)) (4 * c .before .before .before .before .before .before .args .i) (omega (arith, c .before .before .before .before .before .before .pre)) (λ k. omega (arith, c .before .before .before .before .before .shared-slice-known .given k)) (c .le32 .result) (rw (add-zero (4 * c .before .before .before .before .before .before .args .i)) (c .le32 .ensures)) .0
+returns c =
+    let a = c .before .before .before .before .before .before .args in
+    let pre = c .before .before .before .before .before .before .pre in
+    let shared-slice-known = c .before .before .before .before .before .shared-slice-known .given in
+    le-part 4 (now (a .bytes)) (4 * a .i) (omega (arith, pre)) (λ k. omega (arith, shared-slice-known k)) (c .le32 .result) (rw (add-zero (4 * a .i)) (c .le32 .ensures)) .0
 
 pub word-of-spec : {M : Type 1} → statement M
 word-of-spec =

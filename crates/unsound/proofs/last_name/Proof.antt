@@ -29,10 +29,14 @@ loop-less : tie.Need-loop-less Inv-loop μ-loop
 loop-less c = omega arith
 
 loop-again : tie.Need-loop-again Inv-loop μ-loop
-loop-again c = (omega arith, one-more _ _ _ _ _ (c .before .before .loop-test .taken) (c .before .before .before .loop .inv .1) (c .before .slot-name .ensures) (c .greater .ensures))
+loop-again c =
+    let inv = c .before .before .before .loop .inv .1 in
+    (omega arith, one-more _ _ _ _ _ (c .before .before .loop-test .taken) inv (c .before .slot-name .ensures) (c .greater .ensures))
 
 returns : tie.Need-returns Inv-loop μ-loop
-returns c = subst (λ n. Greatest (c .before .before .args .b .slots) n (c .before .loop .last)) (omega (arith, c .before .loop .inv .0, c .loop-test .left)) (c .before .loop .inv .1)
+returns c =
+    let loop = c .before .loop in
+    subst (λ n. Greatest (c .before .before .args .b .slots) n (loop .last)) (omega (arith, loop .inv .0, c .loop-test .left)) (loop .inv .1)
 
 pub last-name-spec : {M : Type 1} → statement M
 last-name-spec =

@@ -9,11 +9,30 @@ use Rattle.unsound.proofs.unsound_buffers.Tie as tie
 
 returns : tie.Need-returns
 unfolding buffersMade
-returns c = record { slot-of-least = _; least = c .before .before .before .before .next-live .ensures; last = _; greatest = c .before .before .last-name .ensures; result = rw (c .before .match .keys1, c .with-slot .ensures, c .before .before .before .slot-name .ensures) }
+returns c =
+    let next-live = c .before .before .before .before .next-live .ensures in
+    let slot-name = c .before .before .before .slot-name .ensures in
+    record {
+      slot-of-least = _;
+      least = next-live;
+      last = _;
+      greatest = c .before .before .last-name .ensures;
+      result = rw (c .before .match .keys1, c .with-slot .ensures, slot-name);
+    }
 
 returns-2 : tie.Need-returns-2
 unfolding buffersMade
-returns-2 c = record { slot-of-least = _; least = c .before .before .before .before .before .next-live .ensures; last = _; greatest = c .before .before .before .last-name .ensures; result = rw (c .before .before .match .keys2, c .with-slot2 .ensures, c .before .other-than .ensures, c .before .before .before .before .slot-name .ensures) }
+returns-2 c =
+    let next-live = c .before .before .before .before .before .next-live .ensures in
+    let slot-name = c .before .before .before .before .slot-name .ensures in
+    let last-name = c .before .before .before .last-name .ensures in
+    record {
+      slot-of-least = _;
+      least = next-live;
+      last = _;
+      greatest = last-name;
+      result = rw (c .before .before .match .keys2, c .with-slot2 .ensures, c .before .other-than .ensures, slot-name);
+    }
 
 returns-3 : tie.Need-returns-3
 unfolding buffersMade
@@ -29,7 +48,10 @@ returns-5 c = record { slot-of-least = _; least = c .before .before .before .nex
 
 returns-6 : tie.Need-returns-6
 unfolding buffersMade
-returns-6 c = record { slot-of-least = _; least = c .before .before .before .next-live .ensures; last = _; greatest = c .before .last-name .ensures; result = last-row (bufferRows _ _ (c .before .before .before .before .args .b)) _ _ (c .match .rest) }
+returns-6 c =
+    let a = c .before .before .before .before .args in
+    let next-live = c .before .before .before .next-live .ensures in
+    record { slot-of-least = _; least = next-live; last = _; greatest = c .before .last-name .ensures; result = last-row (bufferRows _ _ (a .b)) _ _ (c .match .rest) }
 
 pub unsound-buffers-spec : {M : Type 1} → statement M
 unsound-buffers-spec =
