@@ -1,6 +1,8 @@
-//! PocketHLE's six files, unchanged, and a `raster` that records triangles instead of drawing them.
+//! PocketHLE's six files, unchanged, the test copies of one of them, and a `raster` that records
+//! triangles instead of drawing them.
 
 include!(concat!(env!("OUT_DIR"), "/pocket.rs"));
+include!(concat!(env!("OUT_DIR"), "/copies.rs"));
 
 pub mod raster {
     pub use crate::raster_original::*;

@@ -2,6 +2,9 @@
 
 mod answer;
 mod commands;
+#[cfg(test)]
+#[path = "../copies.rs"]
+mod copies;
 mod coverage;
 mod damage;
 mod deck;
