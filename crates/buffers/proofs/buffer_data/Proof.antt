@@ -21,8 +21,8 @@ bound c = c .bound-name .ensures (now (c .before .before .before .before .before
 found : (c : tie.After-find-slot) → c .find-slot .result < 16
 found c =
     let c2 = c .before .before in let c7 = c2 .before .before .before .before .before in
-    let c11 = c7 .before .before .before .before in
-    omega (arith, c .find-slot .ensures, bound-slot _ (valid c7) (now (c11 .args .store)) (c11 .args .target) _ (bound (c2 .before)) (c2 .if4 .left))
+    let args = c7 .before .before .before .before .args in
+    omega (arith, c .find-slot .ensures, bound-slot _ (valid c7) (now (args .store)) (args .target) _ (bound (c2 .before)) (c2 .if4 .left))
 
 returns : tie.Need-returns
 returns c = in-invalid _ _ _ (λ s e. c .before .sound .ensures .decides .no (not-true _ (c .if1 .taken)) s)

@@ -21,8 +21,8 @@ bound c = c .bound-name .ensures (now (c .before .before .before .before .before
 -- the bound name has a slot
 found : (c : tie.After-find-slot) → c .find-slot .result < 16
 found c =
-    let c2 = c .before .before in let c4 = c2 .before .before in let c8 = c4 .before .before .before .before in
-    omega (arith, c .find-slot .ensures, bound-slot _ (valid c4) (now (c8 .args .store)) (c8 .args .target) _ (bound c2) (c .before .if3 .left))
+    let c2 = c .before .before in let c4 = c2 .before .before in let args = c4 .before .before .before .before .args in
+    omega (arith, c .find-slot .ensures, bound-slot _ (valid c4) (now (args .store)) (args .target) _ (bound c2) (c .before .if3 .left))
 
 -- the range lies in its block
 room : (c : tie.Else4) →
@@ -30,12 +30,12 @@ room : (c : tie.Else4) →
     args .offset + length (now (args .«data»)) ≤ 4096
 room c =
     let c2 = c .before .before in let c4 = c2 .before .before in let c6 = c4 .before .before in
-    let c10 = c6 .before .before .before .before in
+    let args = c6 .before .before .before .before .args in
     omega (
       arith,
       c .if4 .left,
       c .before .slot-len .ensures,
-      slot-small _ (now (c10 .args .store)) (c10 .args .target) _ (valid c6) (c6 .before .sound .ensures .slots) (c4 .before .if2 .left) (bound c4)
+      slot-small _ (now (args .store)) (args .target) _ (valid c6) (c6 .before .sound .ensures .slots) (c4 .before .if2 .left) (bound c4)
           (c2 .before .if3 .left) _ (c2 .find-slot .ensures),
     )
 

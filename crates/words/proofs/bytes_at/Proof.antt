@@ -6,8 +6,8 @@ use Rattle.words.proofs.bytes_at.Tie as tie
 
 returns : tie.Need-returns
 returns c =
-    let c2 = c .before .before in let c4 = c2 .before .before in
-    part-is (c4 .args .bytes .now) (c4 .args .place) (c4 .args .n) _ _ (c2 .smaller .ensures) (c .before .smaller2 .ensures)
+    let c2 = c .before .before in let args = c2 .before .before .args in
+    part-is (args .bytes .now) (args .place) (args .n) _ _ (c2 .smaller .ensures) (c .before .smaller2 .ensures)
 
 pub bytes-at-spec : {M : Type 1} → statement M
 bytes-at-spec =
