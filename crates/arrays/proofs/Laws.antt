@@ -13,7 +13,8 @@ use Rattle.arrays.specs.declared.Arrays.{Arrays}
 use Rattle.arrays.specs.declared.ArrayKind.{ArrayKind}
 use Rattle.arrays.specs.declared.Attributes.{Attributes}
 use Rattle.arrays.specs.declared.AttributesAnswer.{AttributesAnswer}
-use Rattle.arrays.specs.Arrays.{unitCount, putArray, arrayKinds, withClientUnit, ArrayCall, vertexPointer, colorPointer, normalPointer, texcoordPointer, clientState, clientUnit, accepted, answered, arrayStep}
+use Rattle.arrays.specs.Arrays.{unitCount, putArray, arrayKinds, withClientUnit, ArrayCall, vertexPointer, colorPointer, normalPointer}
+use Rattle.arrays.specs.Arrays.{texcoordPointer, clientState, clientUnit, accepted, answered, arrayStep}
 use Rattle.arrays.specs.Attributes.{AttributeCall, color, multiTexcoord, unitOf, answer, attributeStep}
 
 -- ---- a call is done, or refused with nothing changed
@@ -22,16 +23,19 @@ answered-keeps : (o : Option Arrays) (a : Arrays) → (answered o a .number ≡ 
 answered-keeps (some b) a = inl refl
 answered-keeps none a = inr (refl, refl)
 
-pub array-keeps : (call : ArrayCall) (binding : ℕ) (a : Arrays) → (arrayStep call binding a .number ≡ 0) ⊎ ((arrayStep call binding a .number ≡ 0x0500) × (arrayStep call binding a .arrays ≡ a))
+pub array-keeps : (call : ArrayCall) (binding : ℕ) (a : Arrays)
+    → (arrayStep call binding a .number ≡ 0) ⊎ ((arrayStep call binding a .number ≡ 0x0500) × (arrayStep call binding a .arrays ≡ a))
 unfolding arrayStep
 array-keeps call binding a = answered-keeps (accepted call binding a) a
 
-pub attribute-keeps : (call : AttributeCall) (a : Attributes) → (attributeStep call a .number ≡ 0) ⊎ ((attributeStep call a .number ≡ 0x0500) × (attributeStep call a .attributes ≡ a))
+pub attribute-keeps : (call : AttributeCall) (a : Attributes)
+    → (attributeStep call a .number ≡ 0) ⊎ ((attributeStep call a .number ≡ 0x0500) × (attributeStep call a .attributes ≡ a))
 unfolding attributeStep
 attribute-keeps (color value) a = inl refl
 attribute-keeps (multiTexcoord unit s t) a = go (ltb (unitOf unit) unitCount) _
   where
-    go : (b : Bool) (x : Attributes) → (cond b (answer 0 x) (answer 0x0500 a) .number ≡ 0) ⊎ ((cond b (answer 0 x) (answer 0x0500 a) .number ≡ 0x0500) × (cond b (answer 0 x) (answer 0x0500 a) .attributes ≡ a))
+    go : (b : Bool) (x : Attributes) → (cond b (answer 0 x) (answer 0x0500 a) .number ≡ 0)
+        ⊎ ((cond b (answer 0 x) (answer 0x0500 a) .number ≡ 0x0500) × (cond b (answer 0 x) (answer 0x0500 a) .attributes ≡ a))
     go true x = inl refl
     go false x = inr (refl, refl)
 

@@ -37,7 +37,13 @@ putArray ArrayKind.Color p a = some (record { vertex = a .vertex; color = p; nor
 putArray ArrayKind.Normal p a = some (record { vertex = a .vertex; color = a .color; normal = p; texcoord = a .texcoord; «client_active_texture» = a .«client_active_texture» })
 putArray ArrayKind.TexCoord p a =
     cond (ltb (a .«client_active_texture») unitCount)
-    (some (record { vertex = a .vertex; color = a .color; normal = a .normal; texcoord = set (a .texcoord) (a .«client_active_texture») p; «client_active_texture» = a .«client_active_texture» }))
+    (some (record {
+      vertex = a .vertex;
+      color = a .color;
+      normal = a .normal;
+      texcoord = set (a .texcoord) (a .«client_active_texture») p;
+      «client_active_texture» = a .«client_active_texture»;
+    }))
     none
 
 -- ---- the calls

@@ -164,7 +164,10 @@ image-step m P f n Q true e g rest =
       arith,
       count-more n R Q (f m) (g .to m (omega arith) e .0) (simp (eq-eqb (f m) (f m) refl)) (g .to m (omega arith) e .1) (λ i l q. simp (ne-eqb i (f m) q)),
       rest R (record {
-        to = λ j l p. (g .to j (omega arith) p .0, simp (ne-eqb (f j) (f m) (λ q. let same : j ≡ m = g .apart j m (omega arith) (omega arith) p e q in omega arith)) (g .to j (omega arith) p .1));
+        to = λ j l p. (
+          g .to j (omega arith) p .0,
+          simp (ne-eqb (f j) (f m) (λ q. let same : j ≡ m = g .apart j m (omega arith) (omega arith) p e q in omega arith)) (g .to j (omega arith) p .1),
+        );
         apart = λ j k l h. g .apart j k (omega arith) (omega arith);
         back = λ i l q. ⊎-elim (λ w. never (R i) q (simp (eq-eqb i (f m) w))) (λ w. earlier i w (g .back i l (rw (ne-eqb i (f m) w) at q))) (same? i (f m));
       }),

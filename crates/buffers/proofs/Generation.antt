@@ -22,7 +22,12 @@ next-made : (b : Buffers) → Sound b → (s : List ℕ) (ok : Bool) → ok ≡ 
     → cond ok (named (objects b s) (b .next)) (objects b s) ≡ make (objects b s) (b .next)
 unfolding named
 next-made b sound s ok room few =
-    simp (room, ne-eqb (b .next) 0 (omega (arith, sound .started)), contents-none (b .slots) s (b .next) (λ j h e. omega (arith, sound .below j h)), lt-ltb (liveNames (objects b s)) 16 few)
+    simp (
+      room,
+      ne-eqb (b .next) 0 (omega (arith, sound .started)),
+      contents-none (b .slots) s (b .next) (λ j h e. omega (arith, sound .below j h)),
+      lt-ltb (liveNames (objects b s)) 16 few,
+    )
 
 -- one name more, the next
 pub left-less : (b : Buffers) (n : ℕ) (out : Buffers) (left : ℕ) → Left b n out left → 0 < left → (ok : Bool) (m : Buffers) → Made out (out .next) ok m → Left b n m (left - 1)

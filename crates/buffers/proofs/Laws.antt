@@ -51,7 +51,12 @@ pub live-next : (o : Objects) → liveNames (make o (o .next)) ≡ liveNames o +
 unfolding liveNames
 live-next o =
     ap (λ (k : ℕ). count k P) more
-    ∙ omega (arith, count-suc P (o .next), count-ext (o .next) P (λ m. not (absent (o .contents m))) (λ m l. simp (ne-eqb m (o .next) (omega arith))), ap {B = ℕ} (λ (t : Bool). cond t 1 0) last)
+    ∙ omega (
+      arith,
+      count-suc P (o .next),
+      count-ext (o .next) P (λ m. not (absent (o .contents m))) (λ m l. simp (ne-eqb m (o .next) (omega arith))),
+      ap {B = ℕ} (λ (t : Bool). cond t 1 0) last,
+    )
   where
     P : ℕ → Bool
     P m = not (absent (cond (eqb m (o .next)) (some []) (o .contents m)))
@@ -79,7 +84,8 @@ gen-names (suc n) o =
       next = rest .next ∙ omega arith;
       new = λ k h. ⊎-elim
           (λ z. rest .other (o .next + k) (inl (omega arith)) ∙ simp (eq-eqb (o .next + k) (o .next) (omega arith)))
-          (λ z. let at : o .next + k ≡ max (o .next) (o .next + 1) + (k - 1) = omega (arith, z) in ap (genNames n (make o (o .next)) .contents) at ∙ rest .new (k - 1) (omega (arith, z)))
+          (λ z. let at : o .next + k ≡ max (o .next) (o .next + 1) + (k - 1) = omega (arith, z) in
+          ap (genNames n (make o (o .next)) .contents) at ∙ rest .new (k - 1) (omega (arith, z)))
           (same? k 0);
       other = λ m side.
           rest .other m (⊎-elim (λ l. inl (omega arith)) (λ l. inr (omega arith)) side)
@@ -93,7 +99,8 @@ pub gen-law : (o : Objects) (n : ℕ) → genBuffers o n .number ≡ 0 → GenMa
 unfolding genBuffers
 gen-law o n done = go (ltb 16 (liveNames o + n)) (ltb 4294967295 (o .next + n)) done
   where
-    go : (x y : Bool) → cond x (answer 4 o) (cond y (answer 5 o) (answer 0 (genNames n o))) .number ≡ 0 → GenMade o n (cond x (answer 4 o) (cond y (answer 5 o) (answer 0 (genNames n o))) .after)
+    go : (x y : Bool) → cond x (answer 4 o) (cond y (answer 5 o) (answer 0 (genNames n o))) .number ≡ 0
+        → GenMade o n (cond x (answer 4 o) (cond y (answer 5 o) (answer 0 (genNames n o))) .after)
     go true y e = absurd (omega arith)
     go false true e = absurd (omega arith)
     go false false e = gen-names n o
@@ -107,7 +114,9 @@ delete-live o n pos below live =
 
 -- So its slot is used again: after that any name finds room.
 pub delete-room : (b : Buffers) → Sound b → (s : List ℕ) (n : ℕ) → absent (contentsOf (b .slots) s n) ≡ false → (m : ℕ) → roomFor (deleteName (objects b s) n) m ≡ true
-delete-room b sound s n live m = either-last (eqb m 0) (not (absent (deleteName (objects b s) n .contents m))) _ (lt-ltb (liveNames (deleteName (objects b s) n)) 16 (omega (arith, less, live-most b sound s)))
+delete-room b sound s n live m =
+    either-last (eqb m 0) (not (absent (deleteName (objects b s) n .contents m))) _
+    (lt-ltb (liveNames (deleteName (objects b s) n)) 16 (omega (arith, less, live-most b sound s)))
   where
     less : liveNames (deleteName (objects b s) n) + 1 ≡ liveNames (objects b s)
     less = delete-live (objects b s) n (live-pos b s n live) (live-below b sound s n live) live

@@ -9,7 +9,8 @@ use borrow.Author.Tests.{lt-ltb, eq-eqb, ne-eqb}
 use Rattle.buffers.specs.Objects.{objects, nameAt, slotOf, liveNames, named, Bindable, Sound, Made}
 use Rattle.buffers.specs.declared.Buffers.{Buffers}
 use Rattle.buffers.proofs.Bounds.{never}
-use Rattle.buffers.proofs.Slots.{slot, slot-found, slot-unknown, contents-none, contents-some, contents-put, live-here, bindable-set, sound-with, sound-set, live-room, live-full}
+use Rattle.buffers.proofs.Slots.{slot, slot-found, slot-unknown, contents-none, contents-some, contents-put, live-here, bindable-set}
+use Rattle.buffers.proofs.Slots.{sound-with, sound-set, live-room, live-full}
 use Rattle.buffers.proofs.Laws.{live-law}
 
 module _ (b : Buffers) (sound : Sound b) (n : ℕ) where
@@ -52,7 +53,8 @@ module _ (b : Buffers) (sound : Sound b) (n : ℕ) where
           let still : (a : ℕ) → Bindable (b .slots) a → Bindable (set (b .slots) f (slot n 0)) a
           = λ a. bindable-set (b .slots) f (slot n 0) sized h a (λ p q. absurd (omega (arith, empty, q, p))) in
           record {
-            room = λ s. simp (ne-eqb n 0 z, contents-none (b .slots) s n unknown, lt-ltb (liveNames (objects b s)) 16 (omega (arith, live-law b sound s, live-room (b .slots) within)));
+            room = λ s. simp
+                (ne-eqb n 0 z, contents-none (b .slots) s n unknown, lt-ltb (liveNames (objects b s)) 16 (omega (arith, live-law b sound s, live-room (b .slots) within)));
             state = λ s.
                 (λ i. record {
                   next = next;

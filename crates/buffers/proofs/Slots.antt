@@ -128,7 +128,8 @@ module _ (slots : List Slot) (k : ℕ) (x : Slot) (sized : length slots ≡ 16) 
           → (m : ℕ) → contentsOf (set slots k x) s′ m ≡ cond (eqb m (x .name)) (some (take (x .len) (drop (4096 * k) s′))) (contentsOf slots s m)
       contents-put pos was m = go (same? m (x .name)) (same? m 0)
         where
-          go : (m ≡ x .name) ⊎ (m ≡ x .name → ⊥) → (m ≡ 0) ⊎ (m ≡ 0 → ⊥) → contentsOf (set slots k x) s′ m ≡ cond (eqb m (x .name)) (some (take (x .len) (drop (4096 * k) s′))) (contentsOf slots s m)
+          go : (m ≡ x .name) ⊎ (m ≡ x .name → ⊥) → (m ≡ 0) ⊎ (m ≡ 0 → ⊥)
+              → contentsOf (set slots k x) s′ m ≡ cond (eqb m (x .name)) (some (take (x .len) (drop (4096 * k) s′))) (contentsOf slots s m)
           go (inl q) d =
               rw (eq-eqb m (x .name) q)
               (contents-at _ once-set s′ m k (omega arith) within (ap (λ (y : Slot). y .name) set-here ∙ sym q)

@@ -10,7 +10,8 @@ use lib.Dec.{eqb}
 use lib.ListN.{length, getD, take, drop, set, length-take, length-drop}
 use lib.Seq.{set-getD}
 use borrow.Author.Tests.{lt-ltb, le-ltb, ne-eqb}
-use Rattle.buffers.specs.Objects.{Objects, objects, Answer, answer, AnswersIn, Bindable, Sound, slotOf, nameAt, lenAt, freeSlot, bytesAt, contentsOf, put, padded, overwrite, boundAt, isTarget, bufferData, bufferSubData, bytesOf, withSlot}
+use Rattle.buffers.specs.Objects.{Objects, objects, Answer, answer, AnswersIn, Bindable, Sound, slotOf, nameAt, lenAt, freeSlot, bytesAt, contentsOf, put, padded}
+use Rattle.buffers.specs.Objects.{overwrite, boundAt, isTarget, bufferData, bufferSubData, bytesOf, withSlot}
 use Rattle.buffers.specs.declared.Slot.{Slot}
 use Rattle.buffers.specs.declared.Buffers.{Buffers}
 use Rattle.buffers.proofs.Bounds.{lt-or-ge}
@@ -67,8 +68,11 @@ module _ (b : Buffers) (s : List ℕ) (t n : ℕ) (sound : Sound b) (slots16 : l
           apart s at new (omega (arith, in-slots)) (lenAt (b .slots) j) (4096 * j) (omega arith)
           (⊎-elim (λ l. inl (omega arith)) (λ l. inr (omega (arith, q))) (lt-or-ge j k))
 
-      holds : (m : ℕ) → contentsOf (set (b .slots) k x) (overwrite s at new) m ≡ cond (eqb m (x .name)) (some (take (x .len) (drop (4096 * k) (overwrite s at new)))) (contentsOf (b .slots) s m)
-      holds m = contents-put (b .slots) k x slots16 in-slots (sound .once) (λ j h q p w. only j h q p (w ∙ e)) s (overwrite s at new) kept (omega (arith, z, e)) (inl (old ∙ sym e)) m
+      holds : (m : ℕ) → contentsOf (set (b .slots) k x) (overwrite s at new) m
+          ≡ cond (eqb m (x .name)) (some (take (x .len) (drop (4096 * k) (overwrite s at new)))) (contentsOf (b .slots) s m)
+      holds m =
+          contents-put (b .slots) k x slots16 in-slots (sound .once) (λ j h q p w. only j h q p (w ∙ e)) s (overwrite s at new) kept (omega (arith, z, e))
+          (inl (old ∙ sym e)) m
 
   pub data-done : (size : ℕ) (bytes : List ℕ) → isTarget t ≡ true → size ≤ 4096
       → (r : Buffers) → r ≡ withSlot b k n size → (s′ : List ℕ) → s′ ≡ overwrite s (4096 * k) (padded size bytes)
@@ -120,7 +124,8 @@ module _ (b : Buffers) (s : List ℕ) (t n : ℕ) (sound : Sound b) (slots16 : l
 
         replaced : objects b after ≡ put (objects b s) n (take (lenAt (b .slots) k) (drop (4096 * k) after))
         replaced =
-            ap (λ (l : List Slot). objects (record { slots = l; next = b .next; «array_buffer» = b .«array_buffer»; «element_buffer» = b .«element_buffer» }) after) (sym (set-getD (b .slots) k freeSlot))
+            ap (λ (l : List Slot). objects (record { slots = l; next = b .next; «array_buffer» = b .«array_buffer»; «element_buffer» = b .«element_buffer» }) after)
+            (sym (set-getD (b .slots) k freeSlot))
             ∙ objects-put (getD (b .slots) k freeSlot) old (4096 * k + off) bytes (omega arith) (omega (arith, slot-small))
 
         inside : take (lenAt (b .slots) k) (drop (4096 * k) after) ≡ overwrite (bytesOf (contentsOf (b .slots) s n)) off bytes

@@ -124,14 +124,18 @@ pub record Answer : Type 0 where
 abbrev pub answer : ℕ → Objects → Answer
 answer n o = record { number = n; after = o }
 
--- The contract of a call that borrows no store, by the rule for its objects. Unsound buffers are refused with 1 and stay. Else number and objects are the rule's over any store, and the buffers stay sound. A refusal changes nothing, save that bind at a refused target, 0x0500, still makes the name.
+-- The contract of a call that borrows no store, by the rule for its objects. Unsound buffers are refused with 1 and stay. Else
+-- number and objects are the rule's over any store, and the buffers stay sound. A refusal changes nothing, save that bind at a
+-- refused target, 0x0500, still makes the name.
 pub record Answers (b : Buffers) (rule : Objects → Answer) (number : ℕ) (r : Buffers) : Type 0 where
   pub unsound : (Sound b → ⊥) → (number ≡ 1) × (r ≡ b)
   pub ruled : Sound b → (s : List ℕ) → answer number (objects r s) ≡ rule (objects b s)
   pub kept : Sound b → Sound r
   pub stays : (number ≡ 0 → ⊥) → (number ≡ 0x0500 → ⊥) → r ≡ b
 
--- The contract of a call that borrows the store, which holds s before and s′ after. Unsound buffers or a store of another length are refused with 1. Else number and objects are the rule's, and the buffers stay sound. A refusal changes neither buffers nor store.
+-- The contract of a call that borrows the store, which holds s before and s′ after. Unsound buffers or a store of another length
+-- are refused with 1. Else number and objects are the rule's, and the buffers stay sound. A refusal changes neither buffers nor
+-- store.
 pub record AnswersIn (b : Buffers) (s : List ℕ) (rule : Objects → Answer) (number : ℕ) (r : Buffers) (s′ : List ℕ) : Type 0 where
   pub invalid : (Sound b → length s ≡ storeBytes → ⊥) → number ≡ 1
   pub ruled : Sound b → length s ≡ storeBytes → answer number (objects r s′) ≡ rule (objects b s)

@@ -6,7 +6,9 @@ ghost use lib.ListN.{length};
 ghost use lib.Seq.{paste};
 ghost use lib.Dec.{eqb, ltb};
 ghost use Rattle.number.specs.Decides.{Decides};
-ghost use Rattle.buffers.specs.Objects.{slotCount, lastName, slotOf, withSlot, lenAt, Bindable, Sound, SoundIs, SlotFits, IsFresh, objects, Made, Answers, bindBuffer, AnswersIn, bufferData, bufferSubData, padded, overwrite, isTarget, boundAt, deleteName, Steps, deleteBuffers, Generates, liveIn};
+ghost use Rattle.buffers.specs.Objects.{slotCount, lastName, slotOf, withSlot, lenAt, Bindable, Sound, SoundIs, SlotFits, IsFresh, objects, Made};
+ghost use Rattle.buffers.specs.Objects.{Answers, bindBuffer, AnswersIn, bufferData, bufferSubData, padded, overwrite, isTarget, boundAt, deleteName};
+ghost use Rattle.buffers.specs.Objects.{Steps, deleteBuffers, Generates, liveIn};
 
 // Limits: slots, bytes of a slot's block, bytes of the store, and the number that no name reaches.
 pub const SLOT_COUNT: usize = 16;
@@ -269,7 +271,9 @@ fn copy_bytes(store: &mut [u8], at: usize, n: usize, data: &[u8])
 // Zeroes the bytes after the first n, up to `size`.
 fn clear_bytes(store: &mut [u8], at: usize, n: usize, size: usize)
     requires { ⌜ (at + size ≤ length (now store)) × (n ≤ size) ⌝ }
-    ensures { λ r. ⌜ ((old bytes : List ℕ) → length bytes ≤ n → length old ≡ length (now (store .entry)) → now (store .entry) ≡ paste old at (padded size bytes) n → now (store .exit) ≡ paste old at (padded size bytes) size) ⌝ }
+    ensures { λ r. ⌜ ((old bytes : List ℕ) → length bytes ≤ n → length old ≡ length (now (store .entry))
+        → now (store .entry) ≡ paste old at (padded size bytes) n
+        → now (store .exit) ≡ paste old at (padded size bytes) size) ⌝ }
 {
     let mut i = n;
     while i < size {

@@ -44,7 +44,8 @@ use Rattle.context.specs.State.{stackAt, view, Sound, SoundApart, Fresh}
 use Rattle.context.specs.Calls as calls
 use Rattle.context.specs.Calls.{BufferCall, gen, bind, delete, bufferData, bufferSubData, Call, isUpload, isBind, borrowsStore}
 use Rattle.context.specs.Rules.{matrixModes, sameMode, bufferAnswer, drawing, slotAfter}
-use Rattle.context.specs.Contract.{currentAt, putCurrent, currentsOf, withCurrent, putCurrents, putStack, putMode, putStacks, putBuffers, putArrays, putAttributes, putPipeline, putError, noted, Valid, RefusalKeeps, Follows, Did, Does, Drew, reply, Settled, sceneFor, drawCall}
+use Rattle.context.specs.Contract.{currentAt, putCurrent, currentsOf, withCurrent, putCurrents, putStack, putMode, putStacks, putBuffers, putArrays, putAttributes}
+use Rattle.context.specs.Contract.{putPipeline, putError, noted, Valid, RefusalKeeps, Follows, Did, Does, Drew, reply, Settled, sceneFor, drawCall}
 
 -- ---- soundness
 
@@ -69,7 +70,8 @@ pub apart-sound : (c : Context) {b : Bool} → c .arrays .«client_active_textur
 apart-sound c p q d = record { yes = λ e. record { stacks = d .yes e; client-unit = p; active-unit = q }; no = λ e h. d .no e (h .stacks) }
 
 pub whole-sound : (c : Context) {b : Bool} → SoundApart c → Decides (buffer.Sound (c .buffers)) b → Decides (Sound c) b
-whole-sound c h d = record { yes = λ e. record { stacks = h .stacks; buffers = d .yes e; client-unit = h .client-unit; active-unit = h .active-unit }; no = λ e w. d .no e (w .buffers) }
+whole-sound c h d =
+    record { yes = λ e. record { stacks = h .stacks; buffers = d .yes e; client-unit = h .client-unit; active-unit = h .active-unit }; no = λ e w. d .no e (w .buffers) }
 
 pub ready : {P Q : Type 0} {b : Bool} → Q → Decides P b → Decides (P × Q) b
 ready q d = record { yes = λ e. (d .yes e, q); no = λ e h. d .no e (h .0) }
@@ -170,7 +172,8 @@ module _ (k : stack.MatrixCall) (c : Context) (h : Sound c) where
         };
         stacks = refl;
         slots = λ _. refl;
-        refusal = λ q. (inl (ap (λ t. noted (new .number) (putStacks t c)) (ap (λ x. putStack (c .mode) x (c .stacks)) (stack-stays k old q) ∙ put-same (c .mode) (c .stacks))), refl);
+        refusal = λ q.
+            (inl (ap (λ t. noted (new .number) (putStacks t c)) (ap (λ x. putStack (c .mode) x (c .stacks)) (stack-stays k old q) ∙ put-same (c .mode) (c .stacks))), refl);
       }
 
 -- push and pop, on the stack of the mode in force
@@ -178,7 +181,8 @@ pub stack-does : (k : stack.MatrixCall) (c : Context) (m : MatrixMode) (a : Stac
     → Does (calls.matrix k) c (a .number) (noted (a .number) (putStacks (putStack m (a .stack) (c .stacks)) c))
 stack-does k c m a h e q =
     does (calls.matrix k) c refl _ _ h
-    (subst (λ (x : MatrixMode × StackAnswer). (s : List ℕ) → Follows (calls.matrix k) c s (x .1 .number) (noted (x .1 .number) (putStacks (putStack (x .0) (x .1 .stack) (c .stacks)) c)) s)
+    (subst (λ (x : MatrixMode × StackAnswer). (s : List ℕ)
+    → Follows (calls.matrix k) c s (x .1 .number) (noted (x .1 .number) (putStacks (putStack (x .0) (x .1 .stack) (c .stacks)) c)) s)
     (λ i. (e i, (ap (λ x. stack.stackAnswer k (stackAt x (c .stacks))) e ∙ sym q) i)) (matrix-follows k c h))
 
 module _ (u : stack.MatrixUpdate) (c : Context) where
@@ -202,7 +206,8 @@ module _ (u : stack.MatrixUpdate) (c : Context) where
   abbrev answered : StackAnswer → Reply
   answered a = reply (a .number) (noted (a .number) (putStacks (putStack (c .mode) (a .stack) (c .stacks)) c))
 
-  update-settled : (r out : Reply) → Settled c r out → (Sound c → r ≡ answered (stack.stackAnswer (stack.update u) in-force)) → Does (calls.matrix (stack.update u)) c (out .number) (out .context)
+  update-settled : (r out : Reply) → Settled c r out → (Sound c → r ≡ answered (stack.stackAnswer (stack.update u) in-force))
+      → Does (calls.matrix (stack.update u)) c (out .number) (out .context)
   update-settled r out g e =
       settled-does (calls.matrix (stack.update u)) c refl _ out (record { sound = λ h. g .sound h ∙ e h; unsound = g .unsound }) (matrix-follows (stack.update u) c)
 
@@ -214,7 +219,8 @@ module _ (u : stack.MatrixUpdate) (c : Context) where
       ap (λ (t : Stacks). reply 0 (noted 0 (putStacks t c)))
       (ap (λ x. putCurrents x (c .stacks)) e ∙ sym (put-current (c .mode) (c .stacks) (stack.updated u (currentAt (c .mode) kept)))
       ∙ ap (λ (x : List Float). putStack (c .mode) (withCurrent (record { entries = stack.updated u x }) in-force) (c .stacks)) (sym (current-at (c .mode) (c .stacks))))
-      ∙ sym (ap answered (is-two in-force (h .stacks (c .mode)) (stack.update u) ∙ ap (λ (n : ℕ). cond (eqb n 0) (stack.answer 0 (stack.changed (stack.update u) in-force)) (stack.answer n in-force)) z))
+      ∙ sym (ap answered (is-two in-force (h .stacks (c .mode)) (stack.update u)
+      ∙ ap (λ (n : ℕ). cond (eqb n 0) (stack.answer 0 (stack.changed (stack.update u) in-force)) (stack.answer n in-force)) z))
       )
 
   -- the value may be had from a copy of the current matrices
@@ -225,8 +231,8 @@ module _ (u : stack.MatrixUpdate) (c : Context) where
       → m ≡ putCurrent (c .mode) b cs → Updated out m → Does (calls.matrix (stack.update u)) c (out .number) (out .context)
   load-does b f z {out = out} e q g = update-does _ out z (q ∙ (λ i. putCurrent (c .mode) (f (currentAt (c .mode) kept) i) (e i))) g
 
-  pub product-does : (b : List Float) → ((x : List Float) → product x b ≡ stack.updated u x) → stack.updateNumber u ≡ 0 → {cs m : Currents} {a : List Float} {out : Reply} → cs ≡ kept
-      → a ≡ b → m ≡ putCurrent (c .mode) (product (currentAt (c .mode) cs) a) cs → Updated out m → Does (calls.matrix (stack.update u)) c (out .number) (out .context)
+  pub product-does : (b : List Float) → ((x : List Float) → product x b ≡ stack.updated u x) → stack.updateNumber u ≡ 0 → {cs m : Currents} {a : List Float} {out : Reply}
+      → cs ≡ kept → a ≡ b → m ≡ putCurrent (c .mode) (product (currentAt (c .mode) cs) a) cs → Updated out m → Does (calls.matrix (stack.update u)) c (out .number) (out .context)
   product-does b f z {out = out} e d q g =
       update-does _ out z
       (q ∙ (λ i. putCurrent (c .mode) (product (currentAt (c .mode) (e i)) (d i)) (e i)) ∙ ap (λ (x : List Float). putCurrent (c .mode) x kept) (f (currentAt (c .mode) kept))) g
@@ -238,7 +244,8 @@ module _ (u : stack.MatrixUpdate) (c : Context) where
       update-settled _ out g (λ h.
       ap (λ (x : Currents). reply n (noted n (putStacks (putCurrents x (c .stacks)) c))) e
       ∙ ap (λ (t : Stacks). reply n (noted n (putStacks t c))) (sym (put-same (c .mode) (c .stacks)))
-      ∙ sym (ap answered (is-two in-force (h .stacks (c .mode)) (stack.update u) ∙ ap (λ (x : ℕ). cond (eqb x 0) (stack.answer 0 (stack.changed (stack.update u) in-force)) (stack.answer x in-force)) (sym z)
+      ∙ sym (ap answered (is-two in-force (h .stacks (c .mode)) (stack.update u)
+      ∙ ap (λ (x : ℕ). cond (eqb x 0) (stack.answer 0 (stack.changed (stack.update u) in-force)) (stack.answer x in-force)) (sym z)
       ∙ ap (λ b. cond b (stack.answer 0 (stack.changed (stack.update u) in-force)) (stack.answer n in-force)) (ne-eqb n 0 q)))
       )
 
@@ -276,7 +283,12 @@ arrays-do k c a out e g =
     (λ h s. record {
       number = refl;
       state = refl;
-      sound = record { stacks = h .stacks; buffers = h .buffers; client-unit = client-stays k (c .buffers .«array_buffer») (c .arrays) (h .client-unit); active-unit = h .active-unit };
+      sound = record {
+        stacks = h .stacks;
+        buffers = h .buffers;
+        client-unit = client-stays k (c .buffers .«array_buffer») (c .arrays) (h .client-unit);
+        active-unit = h .active-unit;
+      };
       stacks = refl;
       slots = λ _. refl;
       refusal = λ q. ⊎-elim (λ z. absurd (q z)) (λ z. (inl (ap (λ x. noted (new .number) (putArrays x c)) (z .1)), refl)) (array-keeps k (c .buffers .«array_buffer») (c .arrays));
@@ -394,7 +406,8 @@ module _ (k : BufferCall) (c : Context) (n : ℕ) (b : Buffers) where
           size = refl;
         }
 
-    pub upload-did : (s s′ : List ℕ) → isUpload k ≡ true → buffer.AnswersIn (c .buffers) s (bufferAnswer k) n b s′ → Did (calls.object (calls.buffer k)) c s n (noted n (putBuffers b c)) s′
+    pub upload-did : (s s′ : List ℕ) → isUpload k ≡ true → buffer.AnswersIn (c .buffers) s (bufferAnswer k) n b s′
+        → Did (calls.object (calls.buffer k)) c s n (noted n (putBuffers b c)) s′
     upload-did s s′ e a =
         record {
           invalid = λ q.
@@ -409,7 +422,8 @@ module _ (k : BufferCall) (c : Context) (n : ℕ) (b : Buffers) where
 -- ---- draws
 
 -- a draw that is not valid
-pub draw-unready : (d : DrawCall) (c : Context) (s : List ℕ) (out : List Float) → (Sound c × (length s ≡ buffer.storeBytes) → ⊥) → Did (calls.draw d) c s 1 c s × Drew d c s (record { number = 1; count = 0 }) out out
+pub draw-unready : (d : DrawCall) (c : Context) (s : List ℕ) (out : List Float) → (Sound c × (length s ≡ buffer.storeBytes) → ⊥)
+    → Did (calls.draw d) c s 1 c s × Drew d c s (record { number = 1; count = 0 }) out out
 draw-unready d c s out h = (
   record { invalid = λ _. (refl, refl, refl); follows = λ v. absurd (h (v .sound, v .store refl)); size = refl },
   record { invalid = λ _. (refl, refl); drawn = λ v. absurd (h (v .sound, v .store refl)) },
@@ -445,7 +459,8 @@ draw-did d c s r out out′ h e = (
 -- the same, from what the inner draw makes of the context's scene
 pub draw-from : (source : Source) (mode stages base : ℕ) (guest : List ℕ) (c : Context) (s : List ℕ) (x : Scene) (r : Drawn) (out out′ : List Float) → x ≡ sceneFor c base stages
     → Sound c × (length s ≡ buffer.storeBytes) → Draws (drawIn (sceneIn x s guest) (c .buffers .«element_buffer») mode source (length out)) r out out′
-    → Did (calls.draw (drawCall source mode stages base guest (length out))) c s (r .number) (noted (r .number) c) s × Drew (drawCall source mode stages base guest (length out)) c s r out out′
+    → Did (calls.draw (drawCall source mode stages base guest (length out))) c s (r .number) (noted (r .number) c) s
+    × Drew (drawCall source mode stages base guest (length out)) c s r out out′
 draw-from source mode stages base guest c s x r out out′ e h d =
     draw-did (drawCall source mode stages base guest (length out)) c s r out out′ h
     (subst (λ y. Draws (drawIn (sceneIn y s guest) (c .buffers .«element_buffer») mode source (length out)) r out out′) e d)
@@ -454,7 +469,15 @@ draw-from source mode stages base guest c s x r out out′ e h d =
 
 pub new-fresh : (t : MatrixStack) (b : Buffers) (a : Arrays) (v : Attributes) (p : Pipeline) → t ≡ stack.freshStack → buffer.IsFresh b → a ≡ freshArrays → v ≡ freshAttributes
     → p ≡ freshPipeline
-    → Fresh (record { mode = MatrixMode.Modelview; stacks = record { modelview = t; projection = t; texture = t }; buffers = b; arrays = a; attributes = v; pipeline = p; error = 0 })
+    → Fresh (record {
+      mode = MatrixMode.Modelview;
+      stacks = record { modelview = t; projection = t; texture = t };
+      buffers = b;
+      arrays = a;
+      attributes = v;
+      pipeline = p;
+      error = 0;
+    })
 new-fresh t b a v p e f g h q =
     record {
       sound = record {

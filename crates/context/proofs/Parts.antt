@@ -24,7 +24,8 @@ use Rattle.context.specs.declared.Context.{Context}
 use Rattle.context.specs.State.{stackAt, view, Sound}
 use Rattle.context.specs.Calls.{buffer, array, borrowsStore, Call, matrix, mode, object, attribute, pipeline, takeError, draw}
 use Rattle.context.specs.Rules.{step}
-use Rattle.context.specs.Contract.{putStack, stacksAfter, currentsOf, withCurrent, putCurrents, putStacks, putMode, putBuffers, putArrays, putAttributes, putPipeline, putError, Valid, Follows, Did}
+use Rattle.context.specs.Contract.{putStack, stacksAfter, currentsOf, withCurrent, putCurrents, putStacks, putMode, putBuffers, putArrays}
+use Rattle.context.specs.Contract.{putAttributes, putPipeline, putError, Valid, Follows, Did}
 
 -- ---- a call is valid or it is not
 
@@ -96,7 +97,8 @@ stacks-decided t =
 
 sound-decided : (c : Context) → Decided (Sound c)
 sound-decided c =
-    decided-by (λ x. record { stacks = x .0; buffers = x .1 .0; client-unit = x .1 .1 .0; active-unit = x .1 .1 .1 }) (λ s. (s .stacks, (s .buffers, (s .client-unit, s .active-unit))))
+    decided-by (λ x. record { stacks = x .0; buffers = x .1 .0; client-unit = x .1 .1 .0; active-unit = x .1 .1 .1 })
+    (λ s. (s .stacks, (s .buffers, (s .client-unit, s .active-unit))))
     (both (stacks-decided (c .stacks)) (both (buffers-decided (c .buffers)) (both (below _ unitCount) (below _ unitCount))))
 
 pub valid-decided : (k : Call) (c : Context) (s : List ℕ) → Decided (Valid k c s)
@@ -149,8 +151,19 @@ update-currents u MatrixMode.Texture t = ap (λ (x : MatrixStack). putStack Matr
 module _ {c c1 : Context} {n : ℕ} {s s1 : List ℕ} where
   -- all that the rule says of the parts
   ruled : (k : Call) → Follows k c s n c1 s1 → (b : Buffers) → b ≡ c1 .buffers
-      → record { mode = step k (view c s) .mode; stacks = stacksAfter k c; buffers = b; arrays = step k (view c s) .objects .arrays; attributes = step k (view c s) .attributes; pipeline = step k (view c s) .pipeline; error = c1 .error } ≡ c1
-  ruled k f b e = let p = sym (f .state) in λ i. record { mode = p i .mode; stacks = sym (f .stacks) i; buffers = e i; arrays = p i .objects .arrays; attributes = p i .attributes; pipeline = p i .pipeline; error = c1 .error }
+      → let r = step k (view c s) in
+      record { mode = r .mode; stacks = stacksAfter k c; buffers = b; arrays = r .objects .arrays; attributes = r .attributes; pipeline = r .pipeline; error = c1 .error } ≡ c1
+  ruled k f b e =
+      let p = sym (f .state) in
+      λ i. record {
+        mode = p i .mode;
+        stacks = sym (f .stacks) i;
+        buffers = e i;
+        arrays = p i .objects .arrays;
+        attributes = p i .attributes;
+        pipeline = p i .pipeline;
+        error = c1 .error;
+      }
 
   valid-changes : (k : Call) → Follows k c s n c1 s1 → changedIn k c c1 ≡ c1
   valid-changes (matrix (update u)) f =

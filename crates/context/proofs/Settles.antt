@@ -18,7 +18,8 @@ use Rattle.context.proofs.Parts.{valid-decided}
 
 -- the state and the stacks have every part of the context but the slots
 same-parts : (c c′ : Context) (s s′ : List ℕ) → view c s ≡ view c′ s′ → c .stacks ≡ c′ .stacks → putBuffers (c′ .buffers) c ≡ c′
-same-parts c c′ s s′ p q = λ i. record { mode = p i .mode; stacks = q i; buffers = c′ .buffers; arrays = p i .objects .arrays; attributes = p i .attributes; pipeline = p i .pipeline; error = p i .error }
+same-parts c c′ s s′ p q =
+    λ i. record { mode = p i .mode; stacks = q i; buffers = c′ .buffers; arrays = p i .objects .arrays; attributes = p i .attributes; pipeline = p i .pipeline; error = p i .error }
 
 module _ {call : Call} {c c1 c1′ : Context} {s s1 s1′ : List ℕ} {n n′ : ℕ} (d : Did call c s n c1 s1) (d′ : Did call c s n′ c1′ s1′) where
   valid-agree : Follows call c s n c1 s1 → Follows call c s n′ c1′ s1′ → Agree call n n′ c1 c1′ s1 s1′
@@ -56,7 +57,8 @@ module _ {call : Call} {c c1 c1′ : Context} {s s1 s1′ : List ℕ} {n n′ : 
 drawn-agree : {g : Drawing} {r r′ : Drawn} {out out1 out1′ : List Float} → Draws g r out out1 → Draws g r′ out out1′ → (r .count ≡ r′ .count) × (out1 ≡ out1′)
 drawn-agree p q = (p .count ∙ sym (q .count), p .output ∙ sym (q .output))
 
-draws-agree : {d : DrawCall} {c : Context} {s : List ℕ} {r r′ : Drawn} {out out1 out1′ : List Float} → Drew d c s r out out1 → Drew d c s r′ out out1′ → (r .count ≡ r′ .count) × (out1 ≡ out1′)
+draws-agree : {d : DrawCall} {c : Context} {s : List ℕ} {r r′ : Drawn} {out out1 out1′ : List Float} → Drew d c s r out out1 → Drew d c s r′ out out1′
+    → (r .count ≡ r′ .count) × (out1 ≡ out1′)
 draws-agree {d = d} {c = c} {s = s} p q =
     ⊎-elim (λ v. drawn-agree (p .drawn v) (q .drawn v)) (λ i. (p .invalid i .0 ∙ sym (q .invalid i .0), p .invalid i .1 ∙ sym (q .invalid i .1))) (valid-decided (draw d) c s)
 

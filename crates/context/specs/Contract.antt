@@ -85,7 +85,9 @@ abbrev pub RefusalKeeps : Call → ℕ → Context → Context → Type 0
 RefusalKeeps call n c c′ =
     (c′ ≡ noted n c) ⊎ ((ofBuffers isBind call ≡ true) × (n ≡ 0x0500) × (c′ ≡ noted n (putBuffers (c′ .buffers) c)))
 
--- A valid call follows the rules: its number, the state that the context and the store stand for afterwards, a sound context, and what a refusal leaves. Which slot holds a name, and what the store holds outside live buffers, is free after a buffer call and stays after any other.
+-- A valid call follows the rules: its number, the state that the context and the store stand for afterwards, a sound context, and
+-- what a refusal leaves. Which slot holds a name, and what the store holds outside live buffers, is free after a buffer call and
+-- stays after any other.
 pub record Follows (call : Call) (c : Context) (s : List ℕ) (n : ℕ) (c′ : Context) (s′ : List ℕ) : Type 0 where
   pub number : n ≡ numberOf call (view c s)
   pub state : view c′ s′ ≡ step call (view c s)

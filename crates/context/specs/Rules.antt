@@ -17,7 +17,8 @@ use Rattle.vertex.specs.Scene.{DrawState, DrawCall}
 use Rattle.draw.specs.Draw.{Drawing, drawOf}
 use Rattle.context.specs.declared.MatrixMode.{MatrixMode}
 use Rattle.context.specs.State.{ObjectState, State}
-use Rattle.context.specs.Calls.{BufferCall, gen, bind, delete, bufferData, bufferSubData, ObjectCall, buffer, array, Call, matrix, mode, object, attribute, pipeline, takeError, draw}
+use Rattle.context.specs.Calls.{BufferCall, gen, bind, delete, bufferData, bufferSubData, ObjectCall, buffer, array, Call, matrix, mode}
+use Rattle.context.specs.Calls.{object, attribute, pipeline, takeError, draw}
 
 -- ---- one part of the state replaced
 

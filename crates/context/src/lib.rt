@@ -24,7 +24,8 @@ ghost use Rattle.buffers.specs.Objects.{storeBytes};
 ghost use Rattle.arrays.specs.Arrays.{unitCount};
 ghost use Rattle.context.specs.State.{stackAt, Sound, SoundApart, Fresh};
 ghost use Rattle.context.specs.Rules.{matrixModes, slotAfter};
-ghost use Rattle.context.specs.Contract.{currentAt, putCurrent, currentsOf, putCurrents, putStacks, putBuffers, putArrays, putAttributes, putPipeline, noted, modeOf, reply, Settled, sceneFor, drawReply};
+ghost use Rattle.context.specs.Contract.{currentAt, putCurrent, currentsOf, putCurrents, putStacks, putBuffers, putArrays, putAttributes, putPipeline};
+ghost use Rattle.context.specs.Contract.{noted, modeOf, reply, Settled, sceneFor, drawReply};
 
 // The stack that matrix calls go to.
 pub enum MatrixMode {

@@ -60,19 +60,22 @@ module _ (s : Scene) (element mode : ℕ) where
       stored : elementsNumber s element count ty pointer ≡ 0 → length (indicesFrom s element (elements count ty pointer)) ≡ count
       stored f = indices-counted element (indexWidth ty) count (indexPart s element count ty pointer) (part-there s element count ty pointer (indexWidth ty) refl (sym f))
 
-      some : 0 < count → cond (eqb count 0) 0 (listNumber s mode (indicesFrom s element (elements count ty pointer))) ≡ 0 → listNumber s mode (indicesFrom s element (elements count ty pointer)) ≡ 0
+      some : 0 < count → cond (eqb count 0) 0 (listNumber s mode (indicesFrom s element (elements count ty pointer))) ≡ 0
+          → listNumber s mode (indicesFrom s element (elements count ty pointer)) ≡ 0
       some h f = subst (λ b. cond b 0 (listNumber s mode (indicesFrom s element (elements count ty pointer))) ≡ 0) (ne-eqb count 0 (λ z. absurd (omega arith))) f
 
 -- the answer by the two questions that settle it
 abbrev chosen : Bool → Bool → ℕ → List Triangle → Drawing
-chosen refused full number ts = cond refused (record { number = number; triangles = [] }) (cond full (record { number = 11; triangles = [] }) (record { number = 0; triangles = ts }))
+chosen refused full number ts = cond refused (record { number = number; triangles = [] })
+    (cond full (record { number = 11; triangles = [] }) (record { number = 0; triangles = ts }))
 
 chosen-refused : (refused full : Bool) (number : ℕ) (ts : List Triangle) → (chosen refused full number ts .number ≡ 0 → ⊥) → chosen refused full number ts .triangles ≡ []
 chosen-refused true full number ts h = refl
 chosen-refused false true number ts h = refl
 chosen-refused false false number ts h = absurd (h refl)
 
-chosen-accepted : (refused full : Bool) (number : ℕ) (ts : List Triangle) → not (eqb number 0) ≡ refused → chosen refused full number ts .number ≡ 0 → (number ≡ 0) × (chosen refused full number ts .triangles ≡ ts)
+chosen-accepted : (refused full : Bool) (number : ℕ) (ts : List Triangle) → not (eqb number 0) ≡ refused → chosen refused full number ts .number ≡ 0
+    → (number ≡ 0) × (chosen refused full number ts .triangles ≡ ts)
 chosen-accepted true full number ts q e = absurd (eqb-false number 0 (not-true _ q) e)
 chosen-accepted false true number ts q e = absurd (omega arith)
 chosen-accepted false false number ts q e = (eqb-true number 0 (not-false _ q), refl)
@@ -84,7 +87,9 @@ view-passed base len stages n e = passed (leb 16 stages) 3 n (λ _ k. absurd (om
 module _ (s : Scene) (element mode : ℕ) (source : Source) (room : ℕ) where
   pub refused-none : (drawIn s element mode source room .number ≡ 0 → ⊥) → drawIn s element mode source room .triangles ≡ []
   unfolding drawIn
-  refused-none h = let ts = trianglesOf s mode (indicesFrom s element source) in chosen-refused (not (eqb (validation s element mode source) 0)) (ltb room (51 * length ts)) (validation s element mode source) ts h
+  refused-none h =
+      let ts = trianglesOf s mode (indicesFrom s element source) in
+      chosen-refused (not (eqb (validation s element mode source) 0)) (ltb room (51 * length ts)) (validation s element mode source) ts h
 
   pub accepted-count : drawIn s element mode source room .number ≡ 0
       → (length (drawIn s element mode source room .triangles) ≡ triangleCount (primitiveOf mode) (indexTotal source)) × (0 < indexTotal source → (4 ≤ mode) × (mode ≤ 6))

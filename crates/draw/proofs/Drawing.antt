@@ -44,7 +44,8 @@ module _ (ts : List Triangle) (out : List Float) where
 -- ---- from the parts of a draw to the draw
 
 module _ (s : Scene) (element mode : ℕ) (source : Source) where
-  pub draw-refused : (out : List Float) (k : ℕ) → validation s element mode source ≡ k → (k ≡ 0 → ⊥) → Draws (drawIn s element mode source (length out)) (record { number = k; count = 0 }) out out
+  pub draw-refused : (out : List Float) (k : ℕ) → validation s element mode source ≡ k → (k ≡ 0 → ⊥)
+      → Draws (drawIn s element mode source (length out)) (record { number = k; count = 0 }) out out
   unfolding drawIn
   draw-refused out k e h = rw e (refused-draw (trianglesOf s mode (indicesFrom s element source)) out k h)
 
@@ -53,7 +54,8 @@ module _ (s : Scene) (element mode : ℕ) (source : Source) where
   unfolding drawIn
   draw-listed n room is r out out′ e f d = rw (e, f) d
 
-  pub draw-by-list : (room : ℕ) (is : List ℕ) (r : Drawn) (out out′ : List Float) → validation s element mode source ≡ listNumber s mode (indicesFrom s element source) → indicesFrom s element source ≡ is
+  pub draw-by-list : (room : ℕ) (is : List ℕ) (r : Drawn) (out out′ : List Float)
+      → validation s element mode source ≡ listNumber s mode (indicesFrom s element source) → indicesFrom s element source ≡ is
       → Draws (answered (listNumber s mode is) room (trianglesOf s mode is)) r out out′ → Draws (drawIn s element mode source room) r out out′
   draw-by-list room is r out out′ e f d = draw-listed (listNumber s mode is) room is r out out′ (e ∙ ap (listNumber s mode) f) f d
 

@@ -59,7 +59,8 @@ module _ (vertex : ℕ → Vertex) (p : Primitive) where
   count-triangles (suc n) = rw length-append (omega (arith, count-triangles n))
 
   -- one triangle more
-  pub words-more : (n : ℕ) → wordsOf (trianglesTo vertex p (n + 1)) ≡ wordsOf (trianglesTo vertex p n) ++ threeWords (vertex (cornersOf p n .a)) (vertex (cornersOf p n .b)) (vertex (cornersOf p n .c))
+  pub words-more : (n : ℕ) → wordsOf (trianglesTo vertex p (n + 1)) ≡ wordsOf (trianglesTo vertex p n)
+      ++ threeWords (vertex (cornersOf p n .a)) (vertex (cornersOf p n .b)) (vertex (cornersOf p n .c))
   unfolding trianglesTo
   words-more n = rw (add-one, words-append, words-one)
 

@@ -157,8 +157,10 @@ fn corner_vertex(
     out: &[f32],
 ) -> Vertex
     requires { ⌜ c < 0x4000_0000_0000_0000 ⌝ }
-    requires { ⌜ Stands (λ q. vertexIn plan (sources (now positions) (now colors) (now b0) (now b1) (now b2) (now b3)) (cornerIndex p (indexList kind (now list) (now elements)) q)) c (now out) ⌝ }
-    ensures { λ r. ⌜ vertexWords r ≡ vertexWords (vertexIn plan (sources (now (positions .entry)) (now (colors .entry)) (now (b0 .entry)) (now (b1 .entry)) (now (b2 .entry)) (now (b3 .entry))) index) ⌝ }
+    requires { ⌜ Stands (λ q. vertexIn plan (sources (now positions) (now colors) (now b0) (now b1) (now b2) (now b3))
+        (cornerIndex p (indexList kind (now list) (now elements)) q)) c (now out) ⌝ }
+    ensures { λ r. ⌜ vertexWords r
+        ≡ vertexWords (vertexIn plan (sources (now (positions .entry)) (now (colors .entry)) (now (b0 .entry)) (now (b1 .entry)) (now (b2 .entry)) (now (b3 .entry))) index) ⌝ }
 {
     if candidate < c {
         if corner_index(p, kind, list, elements, candidate) == index {
@@ -198,7 +200,9 @@ fn write_corners(
     out: &mut [f32],
 )
     requires { ⌜ 17 * n ≤ length (now out) ⌝ }
-    ensures { λ _. ⌜ now (out .exit) ≡ sets (now (out .entry)) 0 (cornerWords (λ q. vertexIn plan (sources (now (positions .entry)) (now (colors .entry)) (now (b0 .entry)) (now (b1 .entry)) (now (b2 .entry)) (now (b3 .entry))) (cornerIndex p (indexList kind (now (list .entry)) (now (elements .entry))) q)) n) ⌝ }
+    ensures { λ _. ⌜ now (out .exit) ≡ sets (now (out .entry)) 0 (cornerWords
+        (λ q. vertexIn plan (sources (now (positions .entry)) (now (colors .entry)) (now (b0 .entry)) (now (b1 .entry)) (now (b2 .entry)) (now (b3 .entry)))
+        (cornerIndex p (indexList kind (now (list .entry)) (now (elements .entry))) q)) n) ⌝ }
 {
     let mut table = [0usize; TABLE];
     let mut c = 0;
@@ -241,7 +245,9 @@ fn write_triangles<'a>(
     out: &mut [f32],
 )
     requires { ⌜ 51 * count ≤ length (now out) ⌝ }
-    ensures { λ _. ⌜ now (out .exit) ≡ sets (now (out .entry)) 0 (wordsOf (trianglesTo (vertexAt (sceneIn s (now (store .entry)) (now (guest .entry))) (indexList kind (now (list .entry)) (now (elements .entry)))) p count)) ⌝ }
+    ensures { λ _. ⌜ now (out .exit)
+        ≡ sets (now (out .entry)) 0 (wordsOf (trianglesTo (vertexAt (sceneIn s (now (store .entry)) (now (guest .entry)))
+        (indexList kind (now (list .entry)) (now (elements .entry)))) p count)) ⌝ }
 {
     let plan = vertex::plan_of(s);
     let b = s.buffers;
@@ -309,7 +315,9 @@ fn draw_indices<'a>(
     elements: &[u8],
     out: &mut [f32],
 ) -> Drawn
-    ensures { λ r. ⌜ Draws (answered (listNumber (sceneIn s (now (store .entry)) (now (guest .entry))) mode (indexList kind (now (list .entry)) (now (elements .entry)))) (length (now (out .entry))) (trianglesOf (sceneIn s (now (store .entry)) (now (guest .entry))) mode (indexList kind (now (list .entry)) (now (elements .entry))))) r (now (out .entry)) (now (out .exit)) ⌝ }
+    ensures { λ r. ⌜ Draws (answered (listNumber (sceneIn s (now (store .entry)) (now (guest .entry))) mode (indexList kind (now (list .entry)) (now (elements .entry))))
+        (length (now (out .entry))) (trianglesOf (sceneIn s (now (store .entry)) (now (guest .entry))) mode (indexList kind (now (list .entry)) (now (elements .entry)))))
+        r (now (out .entry)) (now (out .exit)) ⌝ }
 {
     let number = vertex::validate(s, store, guest, mode, kind, list, elements);
     if number != 0 {
@@ -337,7 +345,9 @@ pub fn draw_list<'a>(
     list: &[u32],
     out: &mut [f32],
 ) -> Drawn
-    ensures { λ r. ⌜ ((element : ℕ) → Draws (drawIn (sceneIn s (now (store .entry)) (now (guest .entry))) element mode (Source.list (now (list .entry))) (length (now (out .entry)))) r (now (out .entry)) (now (out .exit))) ⌝ }
+    ensures { λ r. ⌜ ((element : ℕ)
+        → Draws (drawIn (sceneIn s (now (store .entry)) (now (guest .entry))) element mode (Source.list (now (list .entry))) (length (now (out .entry))))
+        r (now (out .entry)) (now (out .exit))) ⌝ }
 {
     let number = vertex::view_number(s.base, guest.len(), s.stages);
     if number != 0 {
@@ -357,7 +367,9 @@ pub fn draw_range<'a>(
     count: u32,
     out: &mut [f32],
 ) -> Drawn
-    ensures { λ r. ⌜ ((element : ℕ) → Draws (drawIn (sceneIn s (now (store .entry)) (now (guest .entry))) element mode (Source.range first count) (length (now (out .entry)))) r (now (out .entry)) (now (out .exit))) ⌝ }
+    ensures { λ r. ⌜ ((element : ℕ)
+        → Draws (drawIn (sceneIn s (now (store .entry)) (now (guest .entry))) element mode (Source.range first count) (length (now (out .entry))))
+        r (now (out .entry)) (now (out .exit))) ⌝ }
 {
     let number = vertex::view_number(s.base, guest.len(), s.stages);
     if number != 0 {
@@ -381,7 +393,8 @@ pub fn draw_stored<'a>(
     pointer: u32,
     out: &mut [f32],
 ) -> Drawn
-    ensures { λ r. ⌜ Draws (drawIn (sceneIn s (now (store .entry)) (now (guest .entry))) element mode (Source.elements count ty pointer) (length (now (out .entry)))) r (now (out .entry)) (now (out .exit)) ⌝ }
+    ensures { λ r. ⌜ Draws (drawIn (sceneIn s (now (store .entry)) (now (guest .entry))) element mode (Source.elements count ty pointer) (length (now (out .entry))))
+        r (now (out .entry)) (now (out .exit)) ⌝ }
 {
     let view = vertex::view_number(s.base, guest.len(), s.stages);
     if view != 0 {

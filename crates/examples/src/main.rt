@@ -1,4 +1,6 @@
-// Worked examples through the calls: ranges of indices, the values of a vertex, draws that are refused. Each line has a name and the answers: numbers in decimal, f32 as bit patterns. A draw answers its number, its count and the code that take_error then gives.
+// Worked examples through the calls: ranges of indices, the values of a vertex, draws that are refused. Each line has a name and
+// the answers: numbers in decimal, f32 as bit patterns. A draw answers its number, its count and the code that take_error then
+// gives.
 use arrays::COLOR_ARRAY;
 use arrays::TEXTURE_COORD_ARRAY;
 use arrays::TEXTURE0;

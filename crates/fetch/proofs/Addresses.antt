@@ -78,5 +78,6 @@ pub address-length : (a : ArrayPointer) (index A L : ℕ) → addressOf a index 
 unfolding addressOf
 address-length a index A L e =
     let P = strideOf a * index in
-    let r = invert (eqb (componentBytes (a .ty)) 0) (ltb lastAddress (elementBytes a)) (ltb lastAddress P) (ltb lastAddress (a .pointer + P)) (a .pointer + P) (elementBytes a) A L e in
+    let r = invert (eqb (componentBytes (a .ty)) 0) (ltb lastAddress (elementBytes a)) (ltb lastAddress P) (ltb lastAddress (a .pointer + P)) (a .pointer + P)
+    (elementBytes a) A L e in
     (r .1, omega (arith, eqb-false (componentBytes (a .ty)) 0 (r .0)))

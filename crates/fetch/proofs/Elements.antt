@@ -31,12 +31,14 @@ module _ (contents : ℕ → Option (List ℕ)) (base : ℕ) (guest : List ℕ) 
   unfolding partOf
   part-is address len = go (eqb (a .buffer) 0) (contents (a .buffer))
     where
-      go : (z : Bool) (o : Option (List ℕ)) → cond (z || isSome o) (inGuest (cond z base 0) (cond z guest (Option·getD o [])) address len) noBuffer ≡ cond z (inGuest base guest address len) (inBuffer o address len)
+      go : (z : Bool) (o : Option (List ℕ)) → cond (z || isSome o) (inGuest (cond z base 0) (cond z guest (Option·getD o [])) address len) noBuffer
+          ≡ cond z (inGuest base guest address len) (inBuffer o address len)
       go true o = refl
       go false (some held) = from-zero held address len
       go false none = refl
 
-  pub fetched-is : (index : ℕ) (normalize : Bool) → fetchedIn (preparedFor contents base a) (sourceBytes contents guest (a .buffer)) index normalize ≡ fetched contents base guest a index normalize
+  pub fetched-is : (index : ℕ) (normalize : Bool)
+      → fetchedIn (preparedFor contents base a) (sourceBytes contents guest (a .buffer)) index normalize ≡ fetched contents base guest a index normalize
   unfolding fetchedIn fetched
   fetched-is index normalize = go (addressOf a index)
     where
@@ -92,7 +94,8 @@ pub words-are : {v w : Vec4} → v ≡ w → _≡_ {A = List Float} (v .x ∷ v 
 words-are e = λ i. e i .x ∷ e i .y ∷ e i .z ∷ e i .w ∷ []
 
 -- what is found at a place is fetched
-pub found-fetched : (e : Prepared) (source : List ℕ) (address len : ℕ) (normalize : Bool) (place : Place) → Located (partIn e source address len) source len place → isAt place ≡ isComponents (fetchedFrom e source normalize (Address.At address len))
+pub found-fetched : (e : Prepared) (source : List ℕ) (address len : ℕ) (normalize : Bool) (place : Place)
+    → Located (partIn e source address len) source len place → isAt place ≡ isComponents (fetchedFrom e source normalize (Address.At address len))
 found-fetched e source address len normalize (Place.At at) l = rw (l .1)
 found-fetched e source address len normalize Place.NoBuffer l = rw l
 found-fetched e source address len normalize Place.Unreadable l = rw l

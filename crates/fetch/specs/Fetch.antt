@@ -30,7 +30,8 @@ elementBytes a = componentBytes (a .ty) * a .size
 abbrev pub strideOf : ArrayPointer → ℕ
 strideOf a = cond (eqb (a .stride) 0) (elementBytes a) (a .stride)
 
--- The address of an element, with L. It has none if its type is unknown, or if bytes times size (also when a stride is given), stride times index, or pointer plus that product passes 2^32-1.
+-- The address of an element, with L. It has none if its type is unknown, or if bytes times size (also when a stride is given),
+-- stride times index, or pointer plus that product passes 2^32-1.
 unfoldable pub addressOf : ArrayPointer → ℕ → Address
 addressOf a index =
     cond (eqb (componentBytes (a .ty)) 0) Address.UnknownType

@@ -188,7 +188,8 @@ fn find_place(
     address: u32,
     len: usize,
 ) -> Place
-    ensures { λ r. ⌜ Located (partOf (contentsOf (b .slots) (now (store .entry))) base (now (guest .entry)) buffer address len) (sourceOf buffer (now (store .entry)) (now (guest .entry))) len r ⌝ }
+    ensures { λ r. ⌜ Located (partOf (contentsOf (b .slots) (now (store .entry))) base (now (guest .entry)) buffer address len)
+        (sourceOf buffer (now (store .entry)) (now (guest .entry))) len r ⌝ }
 {
     if buffer == 0 {
         return find_in_guest(base, guest, address, len);
@@ -436,7 +437,8 @@ pub fn position_number(f: Fetched) -> u32
     }
 }
 
-// An array as a draw holds it: what is the same for every index. Its elements are parts of one slice, `source`, whose first byte has the address `low`; `known` is false where the array's buffer is absent.
+// An array as a draw holds it: what is the same for every index. Its elements are parts of one slice, `source`, whose first byte
+// has the address `low`; `known` is false where the array's buffer is absent.
 pub struct Prepared {
     pub array: ArrayPointer,
     pub known: bool,

@@ -2,7 +2,8 @@
 use mathlib.Core.Path.{_≡_, refl, sym, _∙_, ap}
 use mathlib.Core.List.{List, [], _∷_}
 use Prim.Native.Nat.{ℕ, zero, suc, _+_, _*_, _/_, _%_, _^_, _<_, _≤_}
-use native.Mathlib.Nat.{pow-succ', zero-div, div-one, mod-eq-of-lt, add-mul-div-left, add-mul-mod-self-left, div-div-eq-div-mul, div-eq-of-lt, zero-add, add-zero, add-suc, mul-le-mul-left}
+use native.Mathlib.Nat.{pow-succ', zero-div, div-one, mod-eq-of-lt, add-mul-div-left, add-mul-mod-self-left, div-div-eq-div-mul}
+use native.Mathlib.Nat.{div-eq-of-lt, zero-add, add-zero, add-suc, mul-le-mul-left}
 use native.Mathlib.Omega.{arith}
 use lib.ListN.{length, getD, take, drop}
 use lib.Seq.{drop-cons}

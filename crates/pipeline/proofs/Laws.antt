@@ -14,7 +14,8 @@ use Rattle.pipeline.specs.declared.Capability.{Capability}
 use Rattle.pipeline.specs.declared.FogParameter.{FogParameter}
 use Rattle.number.specs.Tables.{lookup}
 use Rattle.pipeline.specs.Enums.{compareFuncs, blendFactors, cullModes, frontFaces, fogModes, texEnvModes, fogParameterOf, inIgnoredRange, capabilityOf}
-use Rattle.pipeline.specs.Pipeline.{freshPipeline, PipelineCall, activeTexture, capability, texEnv, texEnvColor, depthFunc, depthRange, alphaFunc, blendFunc, cullFace, frontFace, fog, withActive, putUnit, switched, fogSet, accepted, done, answered, pipelineStep}
+use Rattle.pipeline.specs.Pipeline.{freshPipeline, PipelineCall, activeTexture, capability, texEnv, texEnvColor, depthFunc, depthRange, alphaFunc, blendFunc}
+use Rattle.pipeline.specs.Pipeline.{cullFace, frontFace, fog, withActive, putUnit, switched, fogSet, accepted, done, answered, pipelineStep}
 use Rattle.number.specs.Numbers.{wholePart}
 
 -- ---- a call is done, or refused with nothing changed

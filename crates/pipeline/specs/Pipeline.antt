@@ -48,28 +48,36 @@ freshPipeline =
 -- ---- one part replaced
 
 abbrev pub withActive : ℕ → Pipeline → Pipeline
-withActive unit p = record { «active_texture» = unit; units = p .units; depth = p .depth; alpha = p .alpha; blend = p .blend; cull = p .cull; «front_face» = p .«front_face»; fog = p .fog }
+withActive unit p =
+    record { «active_texture» = unit; units = p.units; depth = p.depth; alpha = p.alpha; blend = p.blend; cull = p.cull; «front_face» = p.«front_face»; fog = p.fog }
 
 abbrev pub withUnits : List TextureUnit → Pipeline → Pipeline
-withUnits us p = record { «active_texture» = p .«active_texture»; units = us; depth = p .depth; alpha = p .alpha; blend = p .blend; cull = p .cull; «front_face» = p .«front_face»; fog = p .fog }
+withUnits us p =
+    record { «active_texture» = p.«active_texture»; units = us; depth = p.depth; alpha = p.alpha; blend = p.blend; cull = p.cull; «front_face» = p.«front_face»; fog = p.fog }
 
 abbrev pub withDepth : DepthState → Pipeline → Pipeline
-withDepth d p = record { «active_texture» = p .«active_texture»; units = p .units; depth = d; alpha = p .alpha; blend = p .blend; cull = p .cull; «front_face» = p .«front_face»; fog = p .fog }
+withDepth d p =
+    record { «active_texture» = p.«active_texture»; units = p.units; depth = d; alpha = p.alpha; blend = p.blend; cull = p.cull; «front_face» = p.«front_face»; fog = p.fog }
 
 abbrev pub withAlpha : AlphaState → Pipeline → Pipeline
-withAlpha a p = record { «active_texture» = p .«active_texture»; units = p .units; depth = p .depth; alpha = a; blend = p .blend; cull = p .cull; «front_face» = p .«front_face»; fog = p .fog }
+withAlpha a p =
+    record { «active_texture» = p.«active_texture»; units = p.units; depth = p.depth; alpha = a; blend = p.blend; cull = p.cull; «front_face» = p.«front_face»; fog = p.fog }
 
 abbrev pub withBlend : BlendState → Pipeline → Pipeline
-withBlend b p = record { «active_texture» = p .«active_texture»; units = p .units; depth = p .depth; alpha = p .alpha; blend = b; cull = p .cull; «front_face» = p .«front_face»; fog = p .fog }
+withBlend b p =
+    record { «active_texture» = p.«active_texture»; units = p.units; depth = p.depth; alpha = p.alpha; blend = b; cull = p.cull; «front_face» = p.«front_face»; fog = p.fog }
 
 abbrev pub withCull : CullState → Pipeline → Pipeline
-withCull c p = record { «active_texture» = p .«active_texture»; units = p .units; depth = p .depth; alpha = p .alpha; blend = p .blend; cull = c; «front_face» = p .«front_face»; fog = p .fog }
+withCull c p =
+    record { «active_texture» = p.«active_texture»; units = p.units; depth = p.depth; alpha = p.alpha; blend = p.blend; cull = c; «front_face» = p.«front_face»; fog = p.fog }
 
 abbrev pub withFace : FrontFace → Pipeline → Pipeline
-withFace f p = record { «active_texture» = p .«active_texture»; units = p .units; depth = p .depth; alpha = p .alpha; blend = p .blend; cull = p .cull; «front_face» = f; fog = p .fog }
+withFace f p =
+    record { «active_texture» = p.«active_texture»; units = p.units; depth = p.depth; alpha = p.alpha; blend = p.blend; cull = p.cull; «front_face» = f; fog = p.fog }
 
 abbrev pub withFog : FogState → Pipeline → Pipeline
-withFog f p = record { «active_texture» = p .«active_texture»; units = p .units; depth = p .depth; alpha = p .alpha; blend = p .blend; cull = p .cull; «front_face» = p .«front_face»; fog = f }
+withFog f p =
+    record { «active_texture» = p.«active_texture»; units = p.units; depth = p.depth; alpha = p.alpha; blend = p.blend; cull = p.cull; «front_face» = p.«front_face»; fog = f }
 
 -- ---- the texture units
 
@@ -109,7 +117,8 @@ switched Capability.Unknown on p = none
 -- a fog value set; a mode counts by its whole part
 abbrev pub fogSet : FogParameter → Float → Pipeline → Option Pipeline
 fogSet FogParameter.Mode v p =
-    Option·map (λ m. withFog (record { enabled = p .fog .enabled; mode = m; density = p .fog .density; start = p .fog .start; end = p .fog .end }) p) (lookup fogModes (wholePart v))
+    Option·map (λ m. withFog (record { enabled = p .fog .enabled; mode = m; density = p .fog .density; start = p .fog .start; end = p .fog .end }) p)
+    (lookup fogModes (wholePart v))
 fogSet FogParameter.Density v p = some (withFog (record { enabled = p .fog .enabled; mode = p .fog .mode; density = v; start = p .fog .start; end = p .fog .end }) p)
 fogSet FogParameter.Start v p = some (withFog (record { enabled = p .fog .enabled; mode = p .fog .mode; density = p .fog .density; start = v; end = p .fog .end }) p)
 fogSet FogParameter.End v p = some (withFog (record { enabled = p .fog .enabled; mode = p .fog .mode; density = p .fog .density; start = p .fog .start; end = v }) p)

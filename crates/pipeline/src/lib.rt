@@ -1,8 +1,10 @@
 // The pipeline settings: the record, what it is at first, and one function for each call that sets a part of it.
 ghost use mathlib.Core.Path.{_≡_};
 ghost use Rattle.number.specs.Tables.{lookup};
-ghost use Rattle.pipeline.specs.Enums.{compareFuncs, blendFactors, cullModes, frontFaces, fogModes, texEnvModes, compareOf, blendOf, cullOf, faceOf, fogOf, envOf, capabilityOf, fogParameterOf};
-ghost use Rattle.pipeline.specs.Pipeline.{freshUnit, freshPipeline, done, refused, answered, activeUnit, putUnit, fogSet, pipelineStep, activeTexture, capability, texEnv, texEnvColor, depthFunc, depthRange, alphaFunc, blendFunc, cullFace, frontFace, fog};
+ghost use Rattle.pipeline.specs.Enums.{compareFuncs, blendFactors, cullModes, frontFaces, fogModes, texEnvModes, compareOf, blendOf, cullOf};
+ghost use Rattle.pipeline.specs.Enums.{faceOf, fogOf, envOf, capabilityOf, fogParameterOf};
+ghost use Rattle.pipeline.specs.Pipeline.{freshUnit, freshPipeline, done, refused, answered, activeUnit, putUnit, fogSet, pipelineStep, activeTexture, capability};
+ghost use Rattle.pipeline.specs.Pipeline.{texEnv, texEnvColor, depthFunc, depthRange, alphaFunc, blendFunc, cullFace, frontFace, fog};
 
 // What depth and alpha are compared by.
 pub enum CompareFunc {

@@ -34,7 +34,8 @@ unfolding objects.genBuffers
 past-the-last-name o n h k = rw (le-ltb 16 (objects.liveNames o + n) h, lt-ltb 4294967295 (o .next + n) k)
 
 -- deleting skips 0, unknown and repeated names
-pub deletes : (numberOf (on (delete (0 ∷ 9 ∷ 1 ∷ 1 ∷ []))) (after bound) ≡ 0) × (after (on (bind 0x8892 1) ∷ on (delete (0 ∷ 9 ∷ 1 ∷ 1 ∷ [])) ∷ []) .objects .buffers .contents 1 ≡ none)
+pub deletes : (numberOf (on (delete (0 ∷ 9 ∷ 1 ∷ 1 ∷ []))) (after bound) ≡ 0)
+    × (after (on (bind 0x8892 1) ∷ on (delete (0 ∷ 9 ∷ 1 ∷ 1 ∷ [])) ∷ []) .objects .buffers .contents 1 ≡ none)
     × (after (on (bind 0x8892 1) ∷ on (delete (0 ∷ 9 ∷ [])) ∷ []) .objects .buffers .contents 1 ≡ some [])
 unfolding objects.bindBuffer objects.named objects.liveNames count objects.deleteNames objects.deleteName
 deletes = (refl, refl, refl)

@@ -26,7 +26,8 @@ pub const PAIRS: usize = 17;
 
 pub const REST: usize = 18;
 
-// The guest bytes from address 4096 up to 4146: six positions with x = 0 to 5; the indices 2, 1, 0; three pairs 1, 2; the positions (-1, -1, 0, -1), (0, 0, 3, 1), (1, 0, -2, 1); two colours.
+// The guest bytes from address 4096 up to 4146: six positions with x = 0 to 5; the indices 2, 1, 0; three pairs 1, 2; the
+// positions (-1, -1, 0, -1), (0, 0, 3, 1), (1, 0, -2, 1); two colours.
 pub const BASE: u32 = 4096;
 
 pub const AT_INDICES: u32 = 4114;

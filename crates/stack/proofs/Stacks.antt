@@ -10,7 +10,8 @@ use borrow.Author.Tests.{lt-ltb, le-ltb, ltb-true, eqb-true}
 use lib.Dec.{ltb, eqb}
 use lib.ListN.{length, getD, take, set, length-set}
 use lib.Seq.{take-suc-set, length-take-le, getD-take, take-take}
-use Rattle.stack.specs.Stack.{limit, Sound, MatrixCall, update, push, pop, stackNumber, StackState, stateOf, freshState, none, stackEffect, stackStep, answer, changed, stackAnswer, freshStack}
+use Rattle.stack.specs.Stack.{limit, Sound, MatrixCall, update, push, pop, stackNumber, StackState, stateOf, freshState, none, stackEffect}
+use Rattle.stack.specs.Stack.{stackStep, answer, changed, stackAnswer, freshStack}
 use Rattle.stack.specs.declared.Matrix.{Matrix}
 use Rattle.stack.specs.declared.MatrixStack.{MatrixStack}
 use Rattle.stack.specs.declared.StackAnswer.{StackAnswer}

@@ -81,7 +81,8 @@ fewest-is (suc (suc k)) n (suc steps) f h =
     let ten : 0 < 10 = omega arith in
     let enough : 10 ^ k * 10 ≤ n = omega arith in
     let least : 10 ^ (suc k - 1) ≤ n / 10 = rw before′ (le-div-iff-mul-le ten .1 enough) in
-    let fewer = fewest-is (suc k) (n / 10) steps (omega arith, div-lt-iff-lt-mul ten .1 top, λ _. least) (omega (arith, div-lt-self {n = n} {k = 10} (omega arith) (omega arith))) in
+    let fewer = fewest-is (suc k) (n / 10) steps (omega arith, div-lt-iff-lt-mul ten .1 top, λ _. least)
+    (omega (arith, div-lt-self {n = n} {k = 10} (omega arith) (omega arith))) in
     rw (le-ltb n 10 (omega arith), fewer)
 
 pub decimal-is : (k n : ℕ) → Fewest 10 1 n k → digits 10 k n ≡ decimal n

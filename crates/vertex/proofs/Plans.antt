@@ -42,7 +42,8 @@ same-number Fetched.NoBuffer = refl
 same-number Fetched.Unreadable = refl
 
 module _ (contents : ℕ → Option (List ℕ)) (base : ℕ) (guest : List ℕ) (a : ArrayPointer) (index : ℕ) (normalize : Bool) where
-  pub words-from : (other : List Float) → wordsOr (fetchedIn (preparedFor contents base a) (sourceBytes contents guest (a .buffer)) index normalize) other ≡ componentsOr (fetched contents base guest a index normalize) other
+  pub words-from : (other : List Float) → wordsOr (fetchedIn (preparedFor contents base a) (sourceBytes contents guest (a .buffer)) index normalize) other
+      ≡ componentsOr (fetched contents base guest a index normalize) other
   words-from other = ap (λ f. wordsOr f other) (fetched-is contents base guest a index normalize) ∙ same-words (fetched contents base guest a index normalize) other
 
 -- ---- the vertex
@@ -53,12 +54,14 @@ module _ (s : Code.Scene) (store guest : List ℕ) (index : ℕ) where
 
   -- the pair of a unit
   pair-from : (unit : ℕ) →
-      pairFor (planOf s held) (preparedFor held (s .base) (getD (s .arrays .texcoord) unit freshArray)) (sourceBytes held guest (getD (s .arrays .texcoord) unit freshArray .buffer)) unit index
+      pairFor (planOf s held) (preparedFor held (s .base) (getD (s .arrays .texcoord) unit freshArray))
+      (sourceBytes held guest (getD (s .arrays .texcoord) unit freshArray .buffer)) unit index
       ≡ pairOf (sceneIn s store guest) index unit
   unfolding stagePair
   pair-from unit =
       let a = getD (s .arrays .texcoord) unit freshArray in
-      ap (λ (v : List Float). cond (hasStage (s .stages) unit) (cond (a .enabled) (transformedPair (s .texture) v) (getD (s .attributes .pairs) unit noPair)) noPair) (words-from held (s .base) guest a index false origin)
+      ap (λ (v : List Float). cond (hasStage (s .stages) unit) (cond (a .enabled) (transformedPair (s .texture) v) (getD (s .attributes .pairs) unit noPair)) noPair)
+      (words-from held (s .base) guest a index false origin)
 
   pub vertex-is : vertexIn (planOf s held) (sourcesOf s held guest) index ≡ vertexOf (sceneIn s store guest) index
   unfolding vertexIn vertexOf pairsIn
@@ -99,7 +102,8 @@ module _ (e : Prepared) (source : List ℕ) (index : ℕ) (h : e .array .enabled
   pub color-on : (current r : List Float) → r ≡ wordsOr (fetchedIn e source index true) current → r ≡ colorIn e source index current
   color-on current r f = f ∙ ap (λ b. cond b (wordsOr (fetchedIn e source index true) current) current) (sym h)
 
-  pub pair-on : (m : List Float) (on : Bool) (current : Pair) (v : List Float) (r : Pair) → on ≡ true → v ≡ wordsOr (fetchedIn e source index false) origin → r ≡ transformedPair m v → r ≡ pairIn e m source index on current
+  pub pair-on : (m : List Float) (on : Bool) (current : Pair) (v : List Float) (r : Pair) → on ≡ true → v ≡ wordsOr (fetchedIn e source index false) origin
+      → r ≡ transformedPair m v → r ≡ pairIn e m source index on current
   pair-on m on current v r o f g =
       g ∙ ap (transformedPair m) f
       ∙ ap (λ b. cond b (transformedPair m (wordsOr (fetchedIn e source index false) origin)) current) (sym h)

@@ -62,11 +62,14 @@ unfolding partOf
 sized contents base guest buffer address len = go (eqb buffer 0)
   where
     go : (b : Bool) → Sized (cond b (inGuest base guest address len) (inBuffer (contents buffer) address len)) len
-    go true = cut guest (address - base) len (leb base address && leb (address - base + len) (length guest)) (λ e. leb-true (address - base + len) (length guest) (both (leb base address) (leb (address - base + len) (length guest)) e))
+    go true =
+        cut guest (address - base) len (leb base address && leb (address - base + len) (length guest))
+        (λ e. leb-true (address - base + len) (length guest) (both (leb base address) (leb (address - base + len) (length guest)) e))
     go false = sized-buffer (contents buffer) address len
 
 -- the code's list of a part that is there
-pub stored-list : (part : Part) (element w n : ℕ) (l : List ℕ) → partNumber element part ≡ 0 → Sized part (n * w) → (w ≡ 1) ⊎ (w ≡ 2) → indicesIn part w n ≡ indexList (cond (eqb w 1) Indices.Bytes Indices.Shorts) l (bytesIn part)
+pub stored-list : (part : Part) (element w n : ℕ) (l : List ℕ) → partNumber element part ≡ 0 → Sized part (n * w) → (w ≡ 1) ⊎ (w ≡ 2)
+    → indicesIn part w n ≡ indexList (cond (eqb w 1) Indices.Bytes Indices.Shorts) l (bytesIn part)
 stored-list (bytes bs) element w n l z e side = ⊎-elim one two side
   where
     one : w ≡ 1 → numbers w n bs ≡ indexList (cond (eqb w 1) Indices.Bytes Indices.Shorts) l bs
@@ -107,7 +110,8 @@ module _ (s : Scene) (element count ty pointer w : ℕ) (e : w ≡ indexWidth ty
   unfolding elementsNumber
   no-type z = rw (sym e, eq-eqb w 0 z)
 
-  pub part-asked : (w ≡ 0 → ⊥) → count * w < 18446744073709551616 → (r : ℕ) → r ≡ partNumber element (partOf (s .contents) (s .base) (s .guest) element pointer (count * w)) → r ≡ elementsNumber s element count ty pointer
+  pub part-asked : (w ≡ 0 → ⊥) → count * w < 18446744073709551616 → (r : ℕ)
+      → r ≡ partNumber element (partOf (s .contents) (s .base) (s .guest) element pointer (count * w)) → r ≡ elementsNumber s element count ty pointer
   unfolding elementsNumber
   part-asked z h r f = rw (sym e, ne-eqb w 0 z, lt-leb 18446744073709551616 (count * w) h) f
 
@@ -118,7 +122,8 @@ module _ (s : Scene) (element mode count ty pointer : ℕ) (v : (n : ℕ) → vi
   pub stored-none : 0 ≡ elementsNumber s element count ty pointer → count ≡ 0 → validation s element mode (elements count ty pointer) ≡ 0
   stored-none f z = v _ ∙ rw (sym f, eq-eqb count 0 z)
 
-  pub stored-some : 0 ≡ elementsNumber s element count ty pointer → (count ≡ 0 → ⊥) → validation s element mode (elements count ty pointer) ≡ listNumber s mode (indicesFrom s element (elements count ty pointer))
+  pub stored-some : 0 ≡ elementsNumber s element count ty pointer → (count ≡ 0 → ⊥)
+      → validation s element mode (elements count ty pointer) ≡ listNumber s mode (indicesFrom s element (elements count ty pointer))
   stored-some f z = v _ ∙ rw (sym f, ne-eqb count 0 z)
 
 -- the number of a part, by what the code finds of it
@@ -136,13 +141,15 @@ module _ (s : Scene) (element count ty pointer w : ℕ) (e : w ≡ indexWidth ty
   unfolding elementsNumber
   part-there = go (eqb (indexWidth ty) 0) (leb 18446744073709551616 (count * indexWidth ty)) z
     where
-      go : (a b : Bool) → 0 ≡ cond a 0x0500 (cond b 0x0501 (partNumber element (indexPart s element count ty pointer))) → partNumber element (indexPart s element count ty pointer) ≡ 0
+      go : (a b : Bool) → 0 ≡ cond a 0x0500 (cond b 0x0501 (partNumber element (indexPart s element count ty pointer)))
+          → partNumber element (indexPart s element count ty pointer) ≡ 0
       go true b f = absurd (omega arith)
       go false true f = absurd (omega arith)
       go false false f = sym f
 
   -- the code's list is the draw's
-  pub stored-indices : (l : List ℕ) (kind : Indices) (bs : List ℕ) → kind ≡ cond (eqb w 1) Indices.Bytes Indices.Shorts → bs ≡ bytesIn (partOf (s .contents) (s .base) (s .guest) element pointer (count * w))
+  pub stored-indices : (l : List ℕ) (kind : Indices) (bs : List ℕ) → kind ≡ cond (eqb w 1) Indices.Bytes Indices.Shorts
+      → bs ≡ bytesIn (partOf (s .contents) (s .base) (s .guest) element pointer (count * w))
       → indicesFrom s element (elements count ty pointer) ≡ indexList kind l bs
   stored-indices l kind bs ek eb =
       ap (λ (x : ℕ). indicesIn (partOf (s .contents) (s .base) (s .guest) element pointer (count * x)) x count) (sym e)

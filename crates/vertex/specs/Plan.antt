@@ -69,7 +69,8 @@ pairFor p e source unit index = pairIn e (p .texture) source index (hasStage (p 
 
 unfoldable pub pairsIn : Plan → List ℕ → List ℕ → List ℕ → List ℕ → ℕ → List Float
 pairsIn p b0 b1 b2 b3 index =
-    pairWords (pairFor p (p .unit0) b0 0 index) ++ pairWords (pairFor p (p .unit1) b1 1 index) ++ pairWords (pairFor p (p .unit2) b2 2 index) ++ pairWords (pairFor p (p .unit3) b3 3 index)
+    pairWords (pairFor p (p .unit0) b0 0 index) ++ pairWords (pairFor p (p .unit1) b1 1 index) ++ pairWords (pairFor p (p .unit2) b2 2 index)
+    ++ pairWords (pairFor p (p .unit3) b3 3 index)
 
 abbrev pub positionIn : Plan → Sources → ℕ → List Float
 positionIn p b index = wordsOr (fetchedIn (p .position) (b .position) index false) origin

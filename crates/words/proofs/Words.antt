@@ -15,7 +15,9 @@ module _ {A : Type 0} (l : List A) where
     where
       go : (b : Bool) → leb n (length l) ≡ b → drop start l ≡ drop n l
       go true f = let q : start ≡ n = omega (arith, leb-true n (length l) f) in rw q
-      go false f = let q : start ≡ length l = omega (arith, leb-false n (length l) f) in rw (q, drop-length) (sym (drop-of-length-le l {i = n} (omega (arith, leb-false n (length l) f))))
+      go false f =
+          let q : start ≡ length l = omega (arith, leb-false n (length l) f) in
+          rw (q, drop-length) (sym (drop-of-length-le l {i = n} (omega (arith, leb-false n (length l) f))))
 
   pub to-end : (n k : ℕ) → k ≡ min n (length l) → take k l ≡ take n l
   to-end n k e = go (leb n (length l)) refl
@@ -25,7 +27,8 @@ module _ {A : Type 0} (l : List A) where
       go false f = let q : k ≡ length l = omega (arith, leb-false n (length l) f) in rw q (take-length l ∙ sym (take-all n l (omega (arith, leb-false n (length l) f))))
 
 -- n from a place on, held within the list
-pub part-is : {A : Type 0} (l : List A) (place n start k : ℕ) → start ≡ min place (length l) → k ≡ min n (length l - start) → take (start + k - start) (drop start l) ≡ take n (drop place l)
+pub part-is : {A : Type 0} (l : List A) (place n start k : ℕ) → start ≡ min place (length l) → k ≡ min n (length l - start)
+    → take (start + k - start) (drop start l) ≡ take n (drop place l)
 part-is l place n start k es ek =
     let q : start + k - start ≡ k = omega arith in
     rw (q, sym (from-start l place start es)) (to-end (drop start l) n k (ek ∙ ap (λ (m : ℕ). min n m) (sym (length-drop start l))))

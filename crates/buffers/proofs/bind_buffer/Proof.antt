@@ -21,13 +21,20 @@ returns-3 : tie.Need-returns-3
 returns-3 c = bind-full _ (valid (c .before .before .before)) _ _ (c .before .before .if2 .left) _ _ (c .before .make-name .ensures) (not-true _ (c .if3 .taken))
 
 returns-4 : tie.Need-returns-4
-returns-4 c = bind-array _ (valid (c .before .before .before .before .before)) _ _ (c .before .before .before .before .if2 .left) _ _ (c .before .before .before .make-name .ensures) (not-false _ (c .before .before .if3 .left)) (c .if4 .taken)
+returns-4 c =
+    let c2 = c .before .before in let c4 = c2 .before .before in
+    bind-array _ (valid (c4 .before)) _ _ (c4 .if2 .left) _ _ (c2 .before .make-name .ensures) (not-false _ (c2 .if3 .left)) (c .if4 .taken)
 
 returns-5 : tie.Need-returns-5
-returns-5 c = bind-element _ (valid (c .before .before .before .before .before .before)) _ _ (c .before .before .before .before .before .if2 .left) _ _ (c .before .before .before .before .make-name .ensures) (not-false _ (c .before .before .before .if3 .left)) (c .before .if4 .left) (c .if5 .taken)
+returns-5 c =
+    let c3 = c .before .before .before in let c5 = c3 .before .before in
+    bind-element _ (valid (c5 .before)) _ _ (c5 .if2 .left) _ _ (c3 .before .make-name .ensures) (not-false _ (c3 .if3 .left)) (c .before .if4 .left)
+    (c .if5 .taken)
 
 returns-6 : tie.Need-returns-6
-returns-6 c = bind-other _ (valid (c .before .before .before .before .before .before)) _ _ (c .before .before .before .before .before .if2 .left) _ _ (c .before .before .before .before .make-name .ensures) (not-false _ (c .before .before .before .if3 .left)) (c .before .if4 .left) (c .if5 .left)
+returns-6 c =
+    let c3 = c .before .before .before in let c5 = c3 .before .before in
+    bind-other _ (valid (c5 .before)) _ _ (c5 .if2 .left) _ _ (c3 .before .make-name .ensures) (not-false _ (c3 .if3 .left)) (c .before .if4 .left) (c .if5 .left)
 
 pub bind-buffer-spec : {M : Type 1} → statement M
 bind-buffer-spec =

@@ -13,7 +13,8 @@ use Rattle.buffers.proofs.clear_bytes.Statement.{statement}
 use Rattle.buffers.proofs.clear_bytes.Tie as tie
 
 abbrev Inv-loop : tie.InvT-loop
-Inv-loop store₀ at n size i₀ store i = (n ≤ i) × (i ≤ size) × (length store ≡ length store₀) × ((old bytes : List ℕ) → length bytes ≤ n → length old ≡ length store₀ → store₀ ≡ paste old at (padded size bytes) n → store ≡ paste old at (padded size bytes) i)
+Inv-loop store₀ at n size i₀ store i = (n ≤ i) × (i ≤ size) × (length store ≡ length store₀)
+    × ((old bytes : List ℕ) → length bytes ≤ n → length old ≡ length store₀ → store₀ ≡ paste old at (padded size bytes) n → store ≡ paste old at (padded size bytes) i)
 
 abbrev μ-loop : tie.MeasureT-loop
 μ-loop store₀ at n size i₀ store i = size - i
@@ -46,7 +47,10 @@ same-length : tie.Need-same-length Inv-loop μ-loop
 same-length c = c .before .loop .inv .2
 
 returns : tie.Need-returns Inv-loop μ-loop
-returns c = let past : c .before .loop .i ≡ c .before .before .args .size = omega (arith, c .loop-test .left, c .before .loop .inv .1) in λ old bytes h l e. rw past at (c .before .loop .inv .3 old bytes h l e)
+returns c =
+    let c2 = c .before .before in
+    let past : c .before .loop .i ≡ c2 .args .size = omega (arith, c .loop-test .left, c .before .loop .inv .1) in
+    λ old bytes h l e. rw past at (c .before .loop .inv .3 old bytes h l e)
 
 pub clear-bytes-spec : {M : Type 1} → statement M
 clear-bytes-spec =

@@ -50,7 +50,10 @@ same-length : tie.Need-same-length Inv-loop μ-loop
 same-length c = c .before .loop .inv .1
 
 returns : tie.Need-returns Inv-loop μ-loop
-returns c = let past : c .before .loop .i ≡ c .before .before .args .n = omega (arith, c .loop-test .left, c .before .loop .inv .0) in λ size h. rw past at (c .before .loop .inv .2 size h)
+returns c =
+    let c2 = c .before .before in
+    let past : c .before .loop .i ≡ c2 .args .n = omega (arith, c .loop-test .left, c .before .loop .inv .0) in
+    λ size h. rw past at (c .before .loop .inv .2 size h)
 
 pub copy-bytes-spec : {M : Type 1} → statement M
 copy-bytes-spec =

@@ -40,17 +40,22 @@ loop-less c = omega arith
 
 loop-again : tie.Need-loop-again Inv-loop μ-loop
 loop-again c =
-    let names = now (c .before .before .before .before .before .before .before .args .names) in
-    let i = c .before .before .before .loop .i in (
+    let c2 = c .before .before in let c7 = c2 .before .before .before .before .before in
+    let names = now (c7 .args .names) in
+    let i = c2 .before .loop .i in (
       omega arith,
-      λ s. ap (deleteNames (drop (i + 1) names)) (c .delete-name .ensures .state s) ∙ sym (delete-step names i (objects (c .before .before .before .loop .out) s) (c .before .before .loop-test .taken)) ∙ c .before .before .before .loop .inv .1 s,
+      λ s. ap (deleteNames (drop (i + 1) names)) (c .delete-name .ensures .state s)
+          ∙ sym (delete-step names i (objects (c2 .before .loop .out) s) (c2 .loop-test .taken)) ∙ c2 .before .loop .inv .1 s,
       c .delete-name .ensures .sound,
     )
 
 returns-2 : tie.Need-returns-2 Inv-loop μ-loop
 returns-2 c =
-    answers-moved _ _ (valid (c .before .before)) 0 _ (inl refl)
-    (λ s. ap (answer 0) (sym (delete-end (now (c .before .before .before .before .before .args .names)) (c .before .loop .i) (objects (c .before .loop .out) s) (c .loop-test .left)) ∙ c .before .loop .inv .1 s)) (c .before .loop .inv .2)
+    let c2 = c .before .before in let c5 = c2 .before .before .before in
+    answers-moved _ _ (valid c2) 0 _ (inl refl)
+    (λ s. ap (answer 0)
+    (sym (delete-end (now (c5 .args .names)) (c .before .loop .i) (objects (c .before .loop .out) s) (c .loop-test .left)) ∙ c .before .loop .inv .1 s))
+    (c .before .loop .inv .2)
 
 pub delete-buffers-spec : {M : Type 1} → statement M
 delete-buffers-spec =

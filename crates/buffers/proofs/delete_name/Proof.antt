@@ -11,7 +11,10 @@ returns-2 : tie.Need-returns-2
 returns-2 c = skip-unknown _ _ (c .before .before .before .pre) (c .before .before .if1 .left) _ (c .before .find-slot .ensures) (c .if2 .taken)
 
 returns-3 : tie.Need-returns-3
-returns-3 c = deleted _ _ (c .before .before .before .before .before .pre) (c .before .before .before .before .if1 .left) _ (c .before .before .before .find-slot .ensures) (rw length-map at (c .before .before .before .before .before .good .0 .1 .1 .0 .1 .0 .1)) (c .before .before .if2 .left) _ _ (c .before .cleared .ensures) (c .cleared2 .ensures)
+returns-3 c =
+    let c2 = c .before .before in let c4 = c2 .before .before in
+    deleted _ _ (c4 .before .pre) (c4 .if1 .left) _ (c2 .before .find-slot .ensures) (rw length-map at (c4 .before .good .0 .1 .1 .0 .1 .0 .1)) (c2 .if2 .left) _ _
+    (c .before .cleared .ensures) (c .cleared2 .ensures)
 
 pub delete-name-spec : {M : Type 1} → statement M
 delete-name-spec =

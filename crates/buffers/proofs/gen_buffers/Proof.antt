@@ -25,7 +25,9 @@ valid c = c .before .sound .ensures .decides .yes (not-false _ (c .if1 .left))
 live : (c : tie.After-live-count Inv-loop μ-loop) (s : List ℕ) → c .live-count .result ≡ liveNames (objects (c .before .before .before .before .args .b) s)
 live c s = c .live-count .ensures .0 ∙ live-law (c .before .before .before .before .args .b) (valid (c .before .before)) s
 
-few : (c : tie.Else3 Inv-loop μ-loop) (s : List ℕ) → liveNames (objects (c .before .before .before .before .before .args .b) s) + c .before .before .before .before .before .args .n ≤ 16
+few : (c : tie.Else3 Inv-loop μ-loop) (s : List ℕ) →
+    let args = c .before .before .before .before .before .args in
+    liveNames (objects (args .b) s) + args .n ≤ 16
 few c s = omega (arith, live (c .before) s, c .if3 .left)
 
 returns : tie.Need-returns Inv-loop μ-loop
@@ -41,7 +43,9 @@ returns-3 : tie.Need-returns-3 Inv-loop μ-loop
 returns-3 c = record { answers = answers-same _ _ (valid (c .before .before .before)) 4 (λ s. gen-full _ _ (omega (arith, live (c .before) s))); names = refl }
 
 returns-4 : tie.Need-returns-4 Inv-loop μ-loop
-returns-4 c = record { answers = answers-same _ _ (valid (c .before .before .before .before .before)) 5 (λ s. gen-past _ _ (few (c .before .before) s) (c .if4 .taken)); names = refl }
+returns-4 c =
+    let c2 = c .before .before in let c5 = c2 .before .before .before in
+    record { answers = answers-same _ _ (valid c5) 5 (λ s. gen-past _ _ (few c2 s) (c .if4 .taken)); names = refl }
 
 loop-holds : tie.Need-loop-holds Inv-loop μ-loop
 loop-holds c = record { state = λ s. refl; sound = valid (c .before .before .before .before .before); live = few (c .before .before); next = c .if4 .left }
@@ -55,17 +59,23 @@ loop-less c = omega arith
 loop-again : tie.Need-loop-again Inv-loop μ-loop
 loop-again c = left-less _ _ _ _ (c .before .before .before .loop .inv) (c .before .before .loop-test .taken) _ _ (c .before .make-name .ensures)
 
-done : (c : tie.After-loop Inv-loop μ-loop) → Answers (c .before .before .before .before .before .before .before .before .before .args .b) (λ o. genBuffers o (c .before .before .before .before .before .before .before .before .before .args .n)) 0 (c .before .loop .out)
+done : (c : tie.After-loop Inv-loop μ-loop) →
+    let args = c .before .before .before .before .before .before .before .before .before .args in
+    Answers (args .b) (λ o. genBuffers o (args .n)) 0 (c .before .loop .out)
 done c =
     answers-moved _ _ (valid (c .before .before .before .before .before .before .before)) 0 _ (inl refl)
     (λ s. ap (answer 0) (left-none _ _ _ _ (c .before .loop .inv) (omega arith) s) ∙ gen-done _ _ (few (c .before .before .before .before) s) (c .before .before .if4 .left))
     (c .before .loop .inv .sound)
 
 returns-5 : tie.Need-returns-5 Inv-loop μ-loop
-returns-5 c = record { answers = done (c .before); names = simp (le-ltb 0 (c .before .before .before .before .before .before .before .before .before .before .args .n) (omega arith)) }
+returns-5 c =
+    let n = c .before .before .before .before .before .before .before .before .before .before .args .n in
+    record { answers = done (c .before); names = simp (le-ltb 0 n (omega arith)) }
 
 returns-6 : tie.Need-returns-6 Inv-loop μ-loop
-returns-6 c = record { answers = done (c .before); names = simp (lt-ltb 0 (c .before .before .before .before .before .before .before .before .before .before .args .n) (omega (arith, c .if5 .left))) }
+returns-6 c =
+    let n = c .before .before .before .before .before .before .before .before .before .before .args .n in
+    record { answers = done (c .before); names = simp (lt-ltb 0 n (omega (arith, c .if5 .left))) }
 
 pub gen-buffers-spec : {M : Type 1} → statement M
 gen-buffers-spec =

@@ -26,12 +26,14 @@ loop-holds c = (omega arith, λ j h. absurd (omega arith))
 returns : tie.Need-returns Inv-loop μ-loop
 returns c =
     sound-fails _ (sized (c .before .before .before .before .before))
-    (λ s. let f = slot-facts _ s (c .before .before .before .before .loop .k) (c .before .before .before .loop-test .taken) in c .before .slot-fits .ensures .no (not-true _ (c .if1 .taken)) (record { small = f .small; below = f .below }))
+    (λ s. let f = slot-facts _ s (c .before .before .before .before .loop .k) (c .before .before .before .loop-test .taken) in
+    c .before .slot-fits .ensures .no (not-true _ (c .if1 .taken)) (record { small = f .small; below = f .below }))
 
 returns-2 : tie.Need-returns-2 Inv-loop μ-loop
 returns-2 c =
-    sound-fails _ (sized (c .before .before .before .before .before .before .before))
-    (λ s. c .before .is-first .ensures .no (not-true _ (c .if2 .taken)) (slot-facts _ s (c .before .before .before .before .before .before .loop .k) (c .before .before .before .before .before .loop-test .taken) .first))
+    let c5 = c .before .before .before .before .before in let c7 = c5 .before .before in
+    sound-fails _ (sized c7)
+    (λ s. c .before .is-first .ensures .no (not-true _ (c .if2 .taken)) (slot-facts _ s (c5 .before .loop .k) (c5 .loop-test .taken) .first))
 
 add-k : tie.Need-add-k Inv-loop μ-loop
 add-k c = omega arith
@@ -41,21 +43,26 @@ loop-less c = omega arith
 
 loop-again : tie.Need-loop-again Inv-loop μ-loop
 loop-again c =
-    let f = c .before .before .before .slot-fits .ensures .yes (not-false _ (c .before .before .if1 .left)) in
-    (omega arith, below-more _ _ (c .before .before .before .before .before .before .loop .inv .1) (record { small = f .small; below = f .below; first = c .before .is-first .ensures .yes (not-false _ (c .if2 .left)) }))
+    let c2 = c .before .before in let c6 = c2 .before .before .before .before in
+    let f = c2 .before .slot-fits .ensures .yes (not-false _ (c2 .if1 .left)) in (
+      omega arith,
+      below-more _ _ (c6 .loop .inv .1) (record { small = f .small; below = f .below; first = c .before .is-first .ensures .yes (not-false _ (c .if2 .left)) }),
+    )
 
 returns-3 : tie.Need-returns-3 Inv-loop μ-loop
 returns-3 c = sound-fails _ (sized (c .before .before .before .before)) (λ s. c .before .bindable-name .ensures .no (not-true _ (c .if3 .taken)) (s .array-live))
 
 returns-4 : tie.Need-returns-4 Inv-loop μ-loop
 returns-4 c =
+    let c2 = c .before .before in let c4 = c2 .before .before in
     record {
       decides =
           record {
-            yes = λ e. sound-facts (c .before .before .before .before .before .args .t1) (λ j h. c .before .before .before .before .loop .inv .1 j (omega arith)) (c .before .before .bindable-name .ensures .yes (not-false _ (c .before .if3 .left))) (c .bindable-name2 .ensures .yes e);
+            yes = λ e. sound-facts (c4 .before .args .t1) (λ j h. c4 .loop .inv .1 j (omega arith)) (c2 .bindable-name .ensures .yes (not-false _ (c .before .if3 .left)))
+                (c .bindable-name2 .ensures .yes e);
             no = λ e s. c .bindable-name2 .ensures .no e (s .element-live);
           };
-      slots = sized (c .before .before .before .before .before);
+      slots = sized (c4 .before);
     }
 
 pub sound-spec : {M : Type 1} → statement M

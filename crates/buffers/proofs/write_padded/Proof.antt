@@ -10,16 +10,20 @@ use Rattle.buffers.proofs.write_padded.Tie as tie
 
 returns : tie.Need-returns
 returns c =
-    let a = c .before .before .before .before .before .before .before .before .before .before .before .before .args in
-    c .before .before .clear-bytes .ensures (now (a .store)) (now (a .«data»)) (omega (arith, c .before .before .before .before .before .before .before .before .before .smaller .ensures, c .before .before .before .before .if1 .taken)) (sym (c .before .before .before .before .before .before .before .copy-bytes .kept .0)) (c .before .before .before .before .before .before .before .copy-bytes .ensures (a .size) (omega (arith, c .before .before .before .before .before .before .before .before .before .smaller .ensures)))
+    let c2 = c .before .before in let c4 = c2 .before .before in let c7 = c4 .before .before .before in
+    let c9 = c7 .before .before in
+    let a = c9 .before .before .before .args in
+    c2 .clear-bytes .ensures (now (a .store)) (now (a .«data»)) (omega (arith, c9 .smaller .ensures, c4 .if1 .taken)) (sym (c7 .copy-bytes .kept .0))
+    (c7 .copy-bytes .ensures (a .size) (omega (arith, c9 .smaller .ensures)))
     ∙ paste-all (now (a .store)) (a .at) (padded (a .size) (now (a .«data»))) (a .size) (sym (length-padded (a .size) (now (a .«data»))))
 
 returns-2 : tie.Need-returns-2
 returns-2 c =
-    let a = c .before .before .before .before .before .before .before .before .args in
-    let whole : c .before .before .before .before .before .smaller .result ≡ a .size = omega (arith, c .before .before .before .before .before .smaller .ensures, c .if1 .left) in
-    c .before .before .before .copy-bytes .ensures (a .size) (omega (arith, c .before .before .before .before .before .smaller .ensures))
-    ∙ paste-all (now (a .store)) (a .at) (padded (a .size) (now (a .«data»))) (c .before .before .before .before .before .smaller .result) (whole ∙ sym (length-padded (a .size) (now (a .«data»))))
+    let c3 = c .before .before .before in let c5 = c3 .before .before in
+    let a = c5 .before .before .before .args in
+    let whole : c5 .smaller .result ≡ a .size = omega (arith, c5 .smaller .ensures, c .if1 .left) in
+    c3 .copy-bytes .ensures (a .size) (omega (arith, c5 .smaller .ensures))
+    ∙ paste-all (now (a .store)) (a .at) (padded (a .size) (now (a .«data»))) (c5 .smaller .result) (whole ∙ sym (length-padded (a .size) (now (a .«data»))))
 
 pub write-padded-spec : {M : Type 1} → statement M
 write-padded-spec =

@@ -13,7 +13,10 @@ returns-2 : tie.Need-returns-2
 returns-2 c = some-unsound _ MatrixMode.Projection (c .before .is-sound2 .ensures .no (not-true _ (c .if2 .taken)))
 
 returns-3 : tie.Need-returns-3
-returns-3 c = all-sound _ (c .before .before .before .before .before .before .is-sound .ensures .yes (not-false _ (c .before .before .before .before .before .if1 .left))) (c .before .before .before .is-sound2 .ensures .yes (not-false _ (c .before .before .if2 .left))) (c .is-sound3 .ensures)
+returns-3 c =
+    let c2 = c .before .before in let c5 = c2 .before .before .before in
+    all-sound _ (c5 .before .is-sound .ensures .yes (not-false _ (c5 .if1 .left))) (c2 .before .is-sound2 .ensures .yes (not-false _ (c2 .if2 .left)))
+    (c .is-sound3 .ensures)
 
 pub stacks-sound-spec : {M : Type 1} → statement M
 stacks-sound-spec =

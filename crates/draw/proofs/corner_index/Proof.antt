@@ -9,7 +9,9 @@ use Rattle.draw.proofs.corner_index.Statement.{statement}
 use Rattle.draw.proofs.corner_index.Tie as tie
 
 returns : tie.Need-returns
-returns c = let args = c .before .before .before .before .args in c .index-at .ensures ∙ ap (λ (k : ℕ). getD (indexList (args .kind) (now (args .list)) (now (args .elements))) k 0) (c .before .corner-place .ensures)
+returns c =
+    let args = c .before .before .before .before .args in
+    c .index-at .ensures ∙ ap (λ (k : ℕ). getD (indexList (args .kind) (now (args .list)) (now (args .elements))) k 0) (c .before .corner-place .ensures)
 
 pub corner-index-spec : {M : Type 1} → statement M
 corner-index-spec = tie.close (tie.spec (λ c κs. search needs) (λ c κs. search needs) returns)

@@ -10,7 +10,9 @@ returns : tie.Need-returns
 returns c = λ element. draw-refused _ element _ _ _ _ (view-refuses _ _ _ _ (c .before .view-number .ensures) _ (c .if1 .taken)) (c .if1 .taken)
 
 returns-2 : tie.Need-returns-2
-returns-2 c = λ element. draw-listed _ element _ _ _ _ _ _ _ _ (view-passes _ _ _ _ (c .before .before .before .before .before .view-number .ensures) _ (c .before .before .before .before .if1 .left)) refl (c .before .before .draw-indices .ensures)
+returns-2 c =
+    let c2 = c .before .before in let c4 = c2 .before .before in
+    λ element. draw-listed _ element _ _ _ _ _ _ _ _ (view-passes _ _ _ _ (c4 .before .view-number .ensures) _ (c4 .if1 .left)) refl (c2 .draw-indices .ensures)
 
 pub draw-list-spec : {M : Type 1} → statement M
 draw-list-spec =

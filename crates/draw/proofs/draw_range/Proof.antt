@@ -12,9 +12,12 @@ returns : tie.Need-returns
 returns c = λ element. draw-refused _ element _ _ _ _ (view-refuses _ _ _ _ (c .before .view-number .ensures) _ (c .if1 .taken)) (c .if1 .taken)
 
 returns-2 : tie.Need-returns-2
-returns-2 c = λ element.
-    let first = c .before .before .before .before .before .before .before .before .before .before .before .args .first in
-    draw-by-list _ element _ _ _ _ _ _ _ (view-passes _ _ _ _ (c .before .before .before .before .before .before .before .view-number .ensures) _ (c .before .before .before .before .before .before .if1 .left)) (ap (λ (k : ℕ). upFrom first (k - first)) (sym (c .before .before .before .before .before .range-end .ensures))) (c .before .before .draw-indices .ensures)
+returns-2 c =
+    let c2 = c .before .before in let c5 = c2 .before .before .before in let c7 = c5 .before .before in
+    λ element.
+    let first = c7 .before .before .before .before .args .first in
+    draw-by-list _ element _ _ _ _ _ _ _ (view-passes _ _ _ _ (c7 .view-number .ensures) _ (c5 .before .if1 .left))
+    (ap (λ (k : ℕ). upFrom first (k - first)) (sym (c5 .range-end .ensures))) (c2 .draw-indices .ensures)
 
 pub draw-range-spec : {M : Type 1} → statement M
 draw-range-spec =

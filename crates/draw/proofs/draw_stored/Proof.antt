@@ -13,20 +13,37 @@ returns : tie.Need-returns
 returns c = draw-refused _ _ _ _ _ _ (view-refuses _ _ _ _ (c .before .view-number .ensures) _ (c .if1 .taken)) (c .if1 .taken)
 
 returns-2 : tie.Need-returns-2
-returns-2 c = draw-refused _ _ _ _ _ _ (stored-refused _ _ _ _ _ _ (λ n. view-passes _ _ _ _ (c .before .before .before .view-number .ensures) n (c .before .before .if1 .left)) _ (c .before .stored-number .ensures) (c .if2 .taken)) (c .if2 .taken)
+returns-2 c =
+    let c2 = c .before .before in
+    draw-refused _ _ _ _ _ _
+    (stored-refused _ _ _ _ _ _ (λ n. view-passes _ _ _ _ (c2 .before .view-number .ensures) n (c2 .if1 .left)) _ (c .before .stored-number .ensures)
+    (c .if2 .taken)) (c .if2 .taken)
 
 returns-3 : tie.Need-returns-3
-returns-3 c = empty-draw _ _ _ _ _ _ _ (stored-none _ _ _ _ _ _ (λ n. view-passes _ _ _ _ (c .before .before .before .before .view-number .ensures) n (c .before .before .before .if1 .left)) (sym (c .before .if2 .left) ∙ c .before .before .stored-number .ensures) (c .if3 .taken)) (c .if3 .taken)
+returns-3 c =
+    let c2 = c .before .before in let c4 = c2 .before .before in
+    empty-draw _ _ _ _ _ _ _ (stored-none _ _ _ _ _ _ (λ n. view-passes _ _ _ _ (c4 .view-number .ensures) n (c2 .before .if1 .left))
+    (sym (c .before .if2 .left) ∙ c2 .stored-number .ensures) (c .if3 .taken)) (c .if3 .taken)
 
 mul-part : tie.Need-mul-part
-mul-part c = omega (arith, product-fits (c .before .before .before .before .before .before .before .before .before .before .args .count) (c .before .index-width .result) (omega (arith, c .before .before .before .before .before .before .before .before .before .before)) (width-there _ _ _ _ _ _ (c .before .index-width .ensures) (sym (c .before .before .before .if2 .left) ∙ c .before .before .before .before .stored-number .ensures)))
+mul-part c =
+    let c3 = c .before .before .before in let c10 = c3 .before .before .before .before .before .before .before in
+    omega (
+      arith,
+      product-fits (c10 .args .count) (c .before .index-width .result) (omega (arith, c10))
+          (width-there _ _ _ _ _ _ (c .before .index-width .ensures) (sym (c3 .if2 .left) ∙ c3 .before .stored-number .ensures)),
+    )
 
 returns-4 : tie.Need-returns-4
-returns-4 c = let args = c .before .before .before .before .before .before .before .before .before .before .before .before .before .before .before .before .before .args in
+returns-4 c =
+    let c2 = c .before .before in let c5 = c2 .before .before .before in let c8 = c5 .before .before .before in
+    let c10 = c8 .before .before in let c12 = c10 .before .before in
+    let args = c12 .before .before .before .before .before .args in
     let s = sceneIn (args .s) (now (args .store)) (now (args .guest)) in
-    let z = sym (c .before .before .before .before .before .before .before .before .before .before .if2 .left) ∙ c .before .before .before .before .before .before .before .before .before .before .before .stored-number .ensures in
-    draw-by-list s _ _ _ _ _ _ _ _ (stored-some s _ _ _ _ _ (λ n. view-passes _ _ _ _ (c .before .before .before .before .before .before .before .before .before .before .before .before .before .view-number .ensures) n (c .before .before .before .before .before .before .before .before .before .before .before .before .if1 .left)) z (c .before .before .before .before .before .before .before .before .before .if3 .left))
-    (stored-indices s _ _ _ _ _ (c .before .before .before .before .before .before .before .before .index-width .ensures) z _ _ _ (c .before .before .before .before .before .kind-of .ensures) (c .before .before .before .before .before .before .part .ensures)) (c .before .before .draw-indices .ensures)
+    let z = sym (c10 .if2 .left) ∙ c10 .before .stored-number .ensures in
+    draw-by-list s _ _ _ _ _ _ _ _
+    (stored-some s _ _ _ _ _ (λ n. view-passes _ _ _ _ (c12 .before .view-number .ensures) n (c12 .if1 .left)) z (c8 .before .if3 .left))
+    (stored-indices s _ _ _ _ _ (c8 .index-width .ensures) z _ _ _ (c5 .kind-of .ensures) (c5 .before .part .ensures)) (c2 .draw-indices .ensures)
 
 pub draw-stored-spec : {M : Type 1} → statement M
 draw-stored-spec =

@@ -8,7 +8,9 @@ use Rattle.draw.proofs.read_vertex.Tie as tie
 
 returns : tie.Need-returns
 unfolding vertexWords
-returns c = let start = c .before .before .before .before .before .before .before .before .before .before .before .before .before .before .before .before .before in words-read (now (start .args .out)) (start .args .at) (start .pre)
+returns c =
+    let start = c .before .before .before .before .before .before .before .before .before .before .before .before .before .before .before .before .before in
+    words-read (now (start .args .out)) (start .args .at) (start .pre)
 
 pub read-vertex-spec : {M : Type 1} → statement M
 read-vertex-spec =

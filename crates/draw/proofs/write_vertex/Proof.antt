@@ -12,19 +12,24 @@ use Rattle.draw.proofs.write_vertex.Statement.{statement}
 use Rattle.draw.proofs.write_vertex.Tie as tie
 
 -- the stores, one run after the other
-written : (c : tie.After-slice-known5) → set (c .before .before .put44 .last .0) (c .before .before .before .before .before .before .before .before .before .before .before .before .before .before .before .before .before .before .before .before .args .at + 16) (c .before .before .before .before .before .before .before .before .before .before .before .before .before .before .before .before .before .before .before .before .args .v .fog) ≡ sets (now (c .before .before .before .before .before .before .before .before .before .before .before .before .before .before .before .before .before .before .before .before .args .out)) (c .before .before .before .before .before .before .before .before .before .before .before .before .before .before .before .before .before .before .before .before .args .at) (vertexWords (c .before .before .before .before .before .before .before .before .before .before .before .before .before .before .before .before .before .before .before .before .args .v))
+written : (c : tie.After-slice-known5) →
+    let c2 = c .before .before in
+    let args = c2 .before .before .before .before .before .before .before .before .before .before .before .before .before .before .before .before .before .before .args in
+    set (c2 .put44 .last .0) (args .at + 16) (args .v .fog) ≡ sets (now (args .out)) (args .at) (vertexWords (args .v))
 unfolding vertexWords
 written c =
-    let args = c .before .before .before .before .before .before .before .before .before .before .before .before .before .before .before .before .before .before .before .before .args in
+    let c2 = c .before .before in let c6 = c2 .before .before .before .before in let c10 = c6 .before .before .before .before in
+    let c14 = c10 .before .before .before .before in
+    let args = c14 .before .before .before .before .before .before .args in
     let out = now (args .out) in
     let at = args .at in
     let p = four (args .v .position) in
     let k = four (args .v .color) in
     let s = four (args .v .texcoords) in
     let t = nextFour (args .v .texcoords) in
-    let e2 = sets-then out at p k (c .before .before .before .before .before .before .before .before .before .before .before .before .before .before .put4 .ensures) (c .before .before .before .before .before .before .before .before .before .before .put42 .ensures) refl in
-    let e3 = sets-then out at (p ++ k) s e2 (c .before .before .before .before .before .before .put43 .ensures) refl in
-    let e4 = sets-then out at (p ++ k ++ s) t e3 (c .before .before .put44 .ensures) refl in
+    let e2 = sets-then out at p k (c14 .put4 .ensures) (c10 .put42 .ensures) refl in
+    let e3 = sets-then out at (p ++ k) s e2 (c6 .put43 .ensures) refl in
+    let e4 = sets-then out at (p ++ k ++ s) t e3 (c2 .put44 .ensures) refl in
     sets-then out at (p ++ k ++ s ++ t) (args .v .fog ∷ []) e4 refl refl
 
 same-length : tie.Need-same-length

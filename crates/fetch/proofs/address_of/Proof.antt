@@ -19,20 +19,26 @@ returns-2 c = sym (long _ _ _ (c .before .before .before .component-bytes .ensur
 
 mul-step : tie.Need-mul-step
 mul-step c =
-    let a = c .before .before .before .before .before .before .args .array in
-    let small = stride-small (a .stride) (c .before .before .before .before .before .component-bytes .result * a .size) 4294967296 (c .before .before .before .before .before .before .good .0 .1 .1 .1 .1 .1 .0 .1) (omega (arith, c .before .before .if2 .left)) in
+    let c2 = c .before .before in let c5 = c2 .before .before .before in
+    let a = c5 .before .args .array in
+    let small = stride-small (a .stride) (c5 .component-bytes .result * a .size) 4294967296 (c5 .before .good .0 .1 .1 .1 .1 .1 .0 .1)
+    (omega (arith, c2 .if2 .left)) in
     record { fits = below 32 (omega (arith, c .element-stride .ensures, small)) (search needs) }
 
 returns-3 : tie.Need-returns-3
-returns-3 c = sym (far _ _ _ (c .before .before .before .before .before .before .component-bytes .ensures) (c .before .before .before .before .before .if1 .left) (c .before .before .before .if2 .left) _ (c .before .element-stride .ensures) (c .if3 .taken))
+returns-3 c =
+    let c3 = c .before .before .before in let c5 = c3 .before .before in
+    sym (far _ _ _ (c5 .before .component-bytes .ensures) (c5 .if1 .left) (c3 .if2 .left) _ (c .before .element-stride .ensures) (c .if3 .taken))
 
 returns-4 : tie.Need-returns-4
 returns-4 c =
-    sym (past _ _ _ (c .before .before .before .before .before .before .before .before .component-bytes .ensures) (c .before .before .before .before .before .before .before .if1 .left) (c .before .before .before .before .before .if2 .left) _ (c .before .before .before .element-stride .ensures) (c .before .before .if3 .left) (c .if4 .taken))
+    let c2 = c .before .before in let c5 = c2 .before .before .before in let c7 = c5 .before .before in
+    sym (past _ _ _ (c7 .before .component-bytes .ensures) (c7 .if1 .left) (c5 .if2 .left) _ (c2 .before .element-stride .ensures) (c2 .if3 .left) (c .if4 .taken))
 
 returns-5 : tie.Need-returns-5
 returns-5 c =
-    sym (there _ _ _ (c .before .before .before .before .before .before .before .before .component-bytes .ensures) (c .before .before .before .before .before .before .before .if1 .left) (c .before .before .before .before .before .if2 .left) _ (c .before .before .before .element-stride .ensures) (c .before .before .if3 .left) (c .if4 .left))
+    let c2 = c .before .before in let c5 = c2 .before .before .before in let c7 = c5 .before .before in
+    sym (there _ _ _ (c7 .before .component-bytes .ensures) (c7 .if1 .left) (c5 .if2 .left) _ (c2 .before .element-stride .ensures) (c2 .if3 .left) (c .if4 .left))
 
 pub address-of-spec : {M : Type 1} → statement M
 address-of-spec =

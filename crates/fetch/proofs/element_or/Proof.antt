@@ -15,9 +15,10 @@ element-requires c κs = (rw (c .before .place .given .1) at (c .before .before 
 
 vector-requires : tie.Need-vector-requires
 vector-requires c κs =
-    let start = c .before .before .before .before .before .before .before .before .before .before .before in
-    let l = address-length (start .args .e .array) (start .args .index) _ _ (sym (c .before .before .before .before .before .before .before .before .address-of .ensures) ∙ c .before .before .before .before .before .before .found .given .1) in
-    (ap length (c .element .ensures) ∙ part-length _ _ _ ((rw (c .before .before .place .given .1) at (c .before .before .before .before .find-element .ensures)) .0) ∙ l .0, l .1)
+    let c2 = c .before .before in let c4 = c2 .before .before in let c6 = c4 .before .before in let c8 = c6 .before .before in
+    let start = c8 .before .before .before in
+    let l = address-length (start .args .e .array) (start .args .index) _ _ (sym (c8 .address-of .ensures) ∙ c6 .found .given .1) in
+    (ap length (c .element .ensures) ∙ part-length _ _ _ ((rw (c2 .place .given .1) at (c4 .find-element .ensures)) .0) ∙ l .0, l .1)
 
 returns : tie.Need-returns
 unfolding fetchedIn
@@ -29,15 +30,23 @@ returns-2 c = rw (sym (c .before .before .address-of .ensures) ∙ c .enum-told2
 
 returns-3 : tie.Need-returns-3
 unfolding fetchedIn
-returns-3 c = rw (sym (c .before .before .before .before .before .before .address-of .ensures) ∙ c .before .before .before .before .found .given .1, rw (c .enum-told3 .given .1) at (c .before .before .find-element .ensures))
+returns-3 c =
+    let c2 = c .before .before in let c4 = c2 .before .before in let c6 = c4 .before .before in
+    rw (sym (c6 .address-of .ensures) ∙ c4 .found .given .1, rw (c .enum-told3 .given .1) at (c2 .find-element .ensures))
 
 returns-4 : tie.Need-returns-4
 unfolding fetchedIn
-returns-4 c = rw (sym (c .before .before .before .before .before .before .address-of .ensures) ∙ c .before .before .before .before .found .given .1, rw (c .enum-told4 .given .1) at (c .before .before .find-element .ensures))
+returns-4 c =
+    let c2 = c .before .before in let c4 = c2 .before .before in let c6 = c4 .before .before in
+    rw (sym (c6 .address-of .ensures) ∙ c4 .found .given .1, rw (c .enum-told4 .given .1) at (c2 .find-element .ensures))
 
 returns-5 : tie.Need-returns-5
 unfolding fetchedIn
-returns-5 c = rw (sym (c .before .before .before .before .before .before .before .before .before .address-of .ensures) ∙ c .before .before .before .before .before .before .before .found .given .1, (rw (c .before .before .before .place .given .1) at (c .before .before .before .before .before .find-element .ensures)) .1) (words-are (c .vector .ensures ∙ ap (vectorOf _ _ _) (c .before .element .ensures)))
+returns-5 c =
+    let c3 = c .before .before .before in let c5 = c3 .before .before in let c7 = c5 .before .before in
+    let c9 = c7 .before .before in
+    rw (sym (c9 .address-of .ensures) ∙ c7 .found .given .1, (rw (c3 .place .given .1) at (c5 .find-element .ensures)) .1)
+    (words-are (c .vector .ensures ∙ ap (vectorOf _ _ _) (c .before .element .ensures)))
 
 pub element-or-spec : {M : Type 1} → statement M
 element-or-spec =

@@ -15,8 +15,10 @@ element-requires c κs = (rw (c .before .place .given .1) at (c .before .before 
 
 vector-requires : tie.Need-vector-requires
 vector-requires c κs =
-    let l = address-length (c .before .before .before .before .before .before .before .before .before .before .before .args .array) (c .before .before .before .before .before .before .before .before .before .before .before .args .index) _ _ (sym (c .before .before .before .before .before .before .before .before .address-of .ensures) ∙ c .before .before .before .before .before .before .found .given .1) in
-    let p = (rw (c .before .before .place .given .1) at (c .before .before .before .before .find-place .ensures)) in
+    let c2 = c .before .before in let c4 = c2 .before .before in let c6 = c4 .before .before in let c8 = c6 .before .before in
+    let args = c8 .before .before .before .args in
+    let l = address-length (args .array) (args .index) _ _ (sym (c8 .address-of .ensures) ∙ c6 .found .given .1) in
+    let p = (rw (c2 .place .given .1) at (c4 .find-place .ensures)) in
     (ap length (c .element .ensures) ∙ part-length _ _ _ (p .0) ∙ l .0, l .1)
 
 returns : tie.Need-returns
@@ -29,17 +31,23 @@ returns-2 c = rw (sym (c .before .before .address-of .ensures) ∙ c .enum-told2
 
 returns-3 : tie.Need-returns-3
 unfolding fetched
-returns-3 c = rw (sym (c .before .before .before .before .before .before .address-of .ensures) ∙ c .before .before .before .before .found .given .1, rw (c .enum-told3 .given .1) at (c .before .before .find-place .ensures))
+returns-3 c =
+    let c2 = c .before .before in let c4 = c2 .before .before in let c6 = c4 .before .before in
+    rw (sym (c6 .address-of .ensures) ∙ c4 .found .given .1, rw (c .enum-told3 .given .1) at (c2 .find-place .ensures))
 
 returns-4 : tie.Need-returns-4
 unfolding fetched
-returns-4 c = rw (sym (c .before .before .before .before .before .before .address-of .ensures) ∙ c .before .before .before .before .found .given .1, rw (c .enum-told4 .given .1) at (c .before .before .find-place .ensures))
+returns-4 c =
+    let c2 = c .before .before in let c4 = c2 .before .before in let c6 = c4 .before .before in
+    rw (sym (c6 .address-of .ensures) ∙ c4 .found .given .1, rw (c .enum-told4 .given .1) at (c2 .find-place .ensures))
 
 returns-5 : tie.Need-returns-5
 unfolding fetched
 returns-5 c =
-    let p = (rw (c .before .before .before .place .given .1) at (c .before .before .before .before .before .find-place .ensures)) in
-    rw (sym (c .before .before .before .before .before .before .before .before .before .address-of .ensures) ∙ c .before .before .before .before .before .before .before .found .given .1, p .1)
+    let c3 = c .before .before .before in let c5 = c3 .before .before in let c7 = c5 .before .before in
+    let c9 = c7 .before .before in
+    let p = (rw (c3 .place .given .1) at (c5 .find-place .ensures)) in
+    rw (sym (c9 .address-of .ensures) ∙ c7 .found .given .1, p .1)
     (ap Fetched.Components (c .vector .ensures ∙ ap (vectorOf _ _ _) (c .before .element .ensures)))
 
 pub fetch-spec : {M : Type 1} → statement M

@@ -17,7 +17,11 @@ returns-2 c = λ n. rw (sym (c .before .before .address-of .ensures) ∙ c .enum
 
 returns-3 : tie.Need-returns-3
 unfolding fetchedIn
-returns-3 c = λ n. rw (sym (c .before .before .before .before .before .address-of .ensures) ∙ c .before .before .before .found .given .1) (c .is-at .ensures ∙ found-fetched (c .before .before .before .before .before .before .before .before .args .e) (now (c .before .before .before .before .before .before .before .before .args .bytes)) (c .before .before .before .found .given .0 .0) (c .before .before .before .found .given .0 .1 .0) n (c .before .find-element .result) (c .before .find-element .ensures))
+returns-3 c =
+    let c3 = c .before .before .before in let c5 = c3 .before .before in let args = c5 .before .before .before .args in
+    λ n. rw (sym (c5 .address-of .ensures) ∙ c3 .found .given .1) (c .is-at .ensures
+    ∙ found-fetched (args .e) (now (args .bytes)) (c3 .found .given .0 .0) (c3 .found .given .0 .1 .0) n (c .before .find-element .result)
+    (c .before .find-element .ensures))
 
 pub is-fetched-spec : {M : Type 1} → statement M
 is-fetched-spec =

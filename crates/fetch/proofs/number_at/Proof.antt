@@ -24,9 +24,11 @@ cast-result c = omega (arith, bytes (c .before .before) (c .before .before .befo
 
 returns : tie.Need-returns
 returns c =
-    let start = c .before .before .before in
+    let c2 = c .before .before in
+    let start = c2 .before in
     rw (c .before .if1 .taken)
-    (le-part 1 (now (start .args .s)) (start .args .at) (omega (arith, start .pre .0, c .before .if1 .taken)) (bytes (c .before .before)) _ (rw (add-zero (start .args .at)) (omega arith)))
+    (le-part 1 (now (start .args .s)) (start .args .at) (omega (arith, start .pre .0, c .before .if1 .taken)) (bytes c2) _
+    (rw (add-zero (start .args .at)) (omega arith)))
 
 returns-2 : tie.Need-returns-2
 returns-2 c =

@@ -7,16 +7,27 @@ use Rattle.fetch.proofs.source.Statement.{statement}
 use Rattle.fetch.proofs.source.Tie as tie
 
 returns : tie.Need-returns
-returns c = c .element .ensures ∙ guest-source (c .before .before .before .before .args .b .slots) (now (c .before .before .before .before .args .store)) (now (c .before .before .before .before .args .guest)) _ (c .before .if1 .taken)
+returns c =
+    let args = c .before .before .before .before .args in
+    c .element .ensures ∙ guest-source (args .b .slots) (now (args .store)) (now (args .guest)) _ (c .before .if1 .taken)
 
 returns-2 : tie.Need-returns-2
-returns-2 c = no-source (c .before .before .before .before .before .before .args .b .slots) (now (c .before .before .before .before .before .before .args .store)) (now (c .before .before .before .before .before .before .args .guest)) _ (c .before .before .before .if1 .left) _ (c .before .before .find-slot .ensures) (c .before .if2 .taken)
+returns-2 c =
+    let c2 = c .before .before in let args = c2 .before .before .before .before .args in
+    no-source (args .b .slots) (now (args .store)) (now (args .guest)) _ (c2 .before .if1 .left) _ (c2 .find-slot .ensures) (c .before .if2 .taken)
 
 returns-3 : tie.Need-returns-3
-returns-3 c = empty-source (c .before .before .before .before .before .before .before .before .args .b .slots) (now (c .before .before .before .before .before .before .before .before .args .store)) (now (c .before .before .before .before .before .before .before .before .args .guest)) _ (c .before .before .before .before .before .if1 .left) _ (c .before .before .before .before .find-slot .ensures) (c .before .before .before .if2 .left) _ (c .before .before .bytes-in-slot .ensures) (c .before .if3 .taken)
+returns-3 c =
+    let c2 = c .before .before in let c4 = c2 .before .before in let args = c4 .before .before .before .before .args in
+    empty-source (args .b .slots) (now (args .store)) (now (args .guest)) _ (c4 .before .if1 .left) _ (c4 .find-slot .ensures) (c2 .before .if2 .left) _
+    (c2 .bytes-in-slot .ensures) (c .before .if3 .taken)
 
 returns-4 : tie.Need-returns-4
-returns-4 c = c .element2 .ensures ∙ held-source (c .before .before .before .before .before .before .before .before .args .b .slots) (now (c .before .before .before .before .before .before .before .before .args .store)) (now (c .before .before .before .before .before .before .before .before .args .guest)) _ (c .before .before .before .before .before .if1 .left) _ (c .before .before .before .before .find-slot .ensures) (c .before .before .before .if2 .left) _ (c .before .before .bytes-in-slot .ensures)
+returns-4 c =
+    let c2 = c .before .before in let c4 = c2 .before .before in let args = c4 .before .before .before .before .args in
+    c .element2 .ensures
+    ∙ held-source (args .b .slots) (now (args .store)) (now (args .guest)) _ (c4 .before .if1 .left) _ (c4 .find-slot .ensures) (c2 .before .if2 .left)
+    _ (c2 .bytes-in-slot .ensures)
 
 pub source-spec : {M : Type 1} → statement M
 source-spec =

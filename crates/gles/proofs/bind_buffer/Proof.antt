@@ -10,7 +10,10 @@ returns : tie.Need-returns
 returns c = rw (c .refuse .ensures) (λ s. unsound-apart _ _ s (c .before .before .is-sound-apart .ensures .no (not-true _ (c .before .if1 .taken))))
 
 returns-2 : tie.Need-returns-2
-returns-2 c = rw (c .put-buffers .ensures) (buffer-does _ _ _ _ (c .before .before .before .before .is-sound-apart .ensures .yes (not-false _ (c .before .before .before .if1 .left))) refl (c .before .bind-buffer .ensures))
+returns-2 c =
+    let c3 = c .before .before .before in
+    rw (c .put-buffers .ensures)
+    (buffer-does _ _ _ _ (c3 .before .is-sound-apart .ensures .yes (not-false _ (c3 .if1 .left))) refl (c .before .bind-buffer .ensures))
 
 pub bind-buffer-spec : {M : Type 1} → statement M
 bind-buffer-spec =

@@ -10,7 +10,10 @@ returns : tie.Need-returns
 returns c = rw (c .refuse .ensures) (unsound-apart _ _ _ (c .before .before .is-sound-apart .ensures .no (not-true _ (c .before .if1 .taken))))
 
 returns-2 : tie.Need-returns-2
-returns-2 c = rw (c .put-buffers .ensures) (upload-did _ _ _ _ (c .before .before .before .before .before .before .before .is-sound-apart .ensures .yes (not-false _ (c .before .before .before .before .before .before .if1 .left))) _ _ refl (c .before .before .before .buffer-sub-data .ensures))
+returns-2 c =
+    let c3 = c .before .before .before in let c6 = c3 .before .before .before in
+    rw (c .put-buffers .ensures)
+    (upload-did _ _ _ _ (c6 .before .is-sound-apart .ensures .yes (not-false _ (c6 .if1 .left))) _ _ refl (c3 .buffer-sub-data .ensures))
 
 pub buffer-sub-data-spec : {M : Type 1} → statement M
 buffer-sub-data-spec =

@@ -10,7 +10,11 @@ returns : tie.Need-returns
 returns c = (λ s. unsound-apart _ _ s (c .before .is-sound-apart .ensures .no (not-true _ (c .if1 .taken))), refl)
 
 returns-2 : tie.Need-returns-2
-returns-2 c = (rw (c .before .put-buffers .ensures) (buffer-does _ _ _ _ (c .before .before .before .before .before .before .is-sound-apart .ensures .yes (not-false _ (c .before .before .before .before .before .if1 .left))) refl (c .before .before .before .gen-buffers .ensures .answers)), c .before .before .before .gen-buffers .ensures .names)
+returns-2 c =
+    let c3 = c .before .before .before in let c5 = c3 .before .before in (
+      rw (c .before .put-buffers .ensures) (buffer-does _ _ _ _ (c5 .before .is-sound-apart .ensures .yes (not-false _ (c5 .if1 .left))) refl (c3 .gen-buffers .ensures .answers)),
+      c3 .gen-buffers .ensures .names,
+    )
 
 pub gen-buffers-spec : {M : Type 1} → statement M
 gen-buffers-spec =

@@ -9,7 +9,10 @@ returns : tie.Need-returns
 returns c = update-refused _ _ _ _ _ (c .before .before .before .ortho-number .ensures) (c .before .if1 .taken) (c .before .before .currents .ensures) (c .answer-currents .ensures)
 
 returns-2 : tie.Need-returns-2
-returns-2 c = product-does _ _ _ (λ x. refl) (sym (c .before .before .before .before .before .ortho-number .ensures) ∙ c .before .before .before .if1 .left) (c .before .before .before .before .currents .ensures) (c .before .before .ortho .ensures) (c .before .multiply .ensures) (c .answer-currents2 .ensures)
+returns-2 c =
+    let c2 = c .before .before in let c4 = c2 .before .before in
+    product-does _ _ _ (λ x. refl) (sym (c4 .before .ortho-number .ensures) ∙ c2 .before .if1 .left) (c4 .currents .ensures) (c2 .ortho .ensures)
+    (c .before .multiply .ensures) (c .answer-currents2 .ensures)
 
 pub ortho-spec : {M : Type 1} → statement M
 ortho-spec =

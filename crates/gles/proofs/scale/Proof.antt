@@ -6,7 +6,9 @@ use Rattle.gles.proofs.scale.Statement.{statement}
 use Rattle.gles.proofs.scale.Tie as tie
 
 returns : tie.Need-returns
-returns c = product-does _ _ _ (λ x. refl) refl (c .before .before .before .currents .ensures) (c .before .before .scale .ensures) (c .before .multiply .ensures) (c .answer-currents .ensures)
+returns c =
+    let c2 = c .before .before in
+    product-does _ _ _ (λ x. refl) refl (c2 .before .currents .ensures) (c2 .scale .ensures) (c .before .multiply .ensures) (c .answer-currents .ensures)
 
 pub scale-spec : {M : Type 1} → statement M
 scale-spec =

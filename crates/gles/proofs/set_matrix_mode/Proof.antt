@@ -9,10 +9,15 @@ returns : tie.Need-returns
 returns c = rw (c .refuse .ensures) (λ s. unsound _ _ s (c .before .before .is-sound .ensures .no (not-true _ (c .before .if1 .taken))))
 
 returns-2 : tie.Need-returns-2
-returns-2 c = mode-known _ _ (c .before .before .before .before .before .before .before .before .before .before .is-sound .ensures .yes (not-false _ (c .before .before .before .before .before .before .before .before .before .if1 .left))) _ (rw (← c .before .before .before .before .before .before .before .before .matrix-mode .ensures, c .before .before .before .before .before .before .found .given .1))
+returns-2 c =
+    let c6 = c .before .before .before .before .before .before in let c8 = c6 .before .before in let c10 = c8 .before .before in
+    mode-known _ _ (c10 .is-sound .ensures .yes (not-false _ (c8 .before .if1 .left))) _ (rw (← c8 .matrix-mode .ensures, c6 .found .given .1))
 
 returns-3 : tie.Need-returns-3
-returns-3 c = rw (c .slot-after .ensures) (mode-unknown _ _ (c .before .before .before .before .before .is-sound .ensures .yes (not-false _ (c .before .before .before .before .if1 .left))) (rw (← c .before .before .before .matrix-mode .ensures, c .before .enum-told .given .1)))
+returns-3 c =
+    let c3 = c .before .before .before in let c5 = c3 .before .before in
+    rw (c .slot-after .ensures)
+    (mode-unknown _ _ (c5 .is-sound .ensures .yes (not-false _ (c3 .before .if1 .left))) (rw (← c3 .matrix-mode .ensures, c .before .enum-told .given .1)))
 
 pub set-matrix-mode-spec : {M : Type 1} → statement M
 set-matrix-mode-spec =

@@ -29,5 +29,6 @@ unfolding code.routine tablesOf
 popped-spec 𝓤 H 𝓜 𝓖 𝓡 =
     entered 𝓤 H (tripleOf 𝓤 H (𝓖 .A) this.signature (this.spec 𝓤 H (𝓖 .A) (𝓜 .mem) (𝓡 .run)))
     (tables 𝓤 H 𝓜 𝓡 code.env .C) (tables 𝓤 H 𝓜 𝓡 code.env .Λ) #this code.function (code.unfolded 𝓤 H 𝓜 𝓡)
-    (lends-meets 𝓤 H (𝓖 .A) (givenOf 𝓤 H 𝓜 𝓖) (stackAnswer MatrixCall.pop) (this.clauses 𝓤 H (𝓖 .A) (𝓜 .mem) (𝓡 .run)) (promised 𝓤 H (𝓖 .A) (𝓜 .mem) (𝓡 .run)) #callee (tablesOf 𝓤 H 𝓜 (tables 𝓤 H 𝓜 𝓡 code.env))
+    (lends-meets 𝓤 H (𝓖 .A) (givenOf 𝓤 H 𝓜 𝓖) (stackAnswer MatrixCall.pop) (this.clauses 𝓤 H (𝓖 .A) (𝓜 .mem) (𝓡 .run)) (promised 𝓤 H (𝓖 .A) (𝓜 .mem) (𝓡 .run))
+    #callee (tablesOf 𝓤 H 𝓜 (tables 𝓤 H 𝓜 𝓡 code.env))
     (cited 𝓤 H (Callee 𝓤 H (𝓖 .A) (stackAnswer MatrixCall.pop)) 𝓜 𝓡 code.env #callee callee-def.routine code.calls-lent-stack·pop (callee-thm.met 𝓤 H 𝓜 𝓖 𝓡)))

@@ -6,7 +6,9 @@ use Rattle.pipeline.proofs.set_alpha_func.Tie as tie
 
 returns : tie.Need-returns
 unfolding pipelineStep accepted
-returns c = rw (c .accept .ensures, ← c .before .before .before .before .before .compare-func .ensures, c .before .before .before .found .given .1, ← c .before .clamp-unit .ensures)
+returns c =
+    let c3 = c .before .before .before in let c5 = c3 .before .before in
+    rw (c .accept .ensures, ← c5 .compare-func .ensures, c3 .found .given .1, ← c .before .clamp-unit .ensures)
 
 returns-2 : tie.Need-returns-2
 unfolding pipelineStep accepted

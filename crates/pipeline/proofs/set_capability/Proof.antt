@@ -22,7 +22,9 @@ returns-4 c = rw (c .accept4 .ensures, ← c .before .before .before .before .ca
 
 returns-5 : tie.Need-returns-5
 unfolding pipelineStep accepted
-returns-5 c = rw (c .put-active-unit .ensures, ← c .before .before .before .before .capability-of .ensures, c .before .before .enum-told5 .given .1, c .before .active-unit .ensures)
+returns-5 c =
+    let c2 = c .before .before in let c4 = c2 .before .before in
+    rw (c .put-active-unit .ensures, ← c4 .capability-of .ensures, c2 .enum-told5 .given .1, c .before .active-unit .ensures)
 
 returns-6 : tie.Need-returns-6
 unfolding pipelineStep accepted

@@ -4,7 +4,9 @@ use Rattle.pipeline.proofs.set_fog_mode.Statement.{statement}
 use Rattle.pipeline.proofs.set_fog_mode.Tie as tie
 
 returns : tie.Need-returns
-returns c = rw (c .accept .ensures, ← c .before .before .before .before .before .whole-u32 .ensures, ← c .before .before .before .before .fog-mode .ensures, c .before .before .found .given .1)
+returns c =
+    let c2 = c .before .before in let c4 = c2 .before .before in
+    rw (c .accept .ensures, ← c4 .before .whole-u32 .ensures, ← c4 .fog-mode .ensures, c2 .found .given .1)
 
 returns-2 : tie.Need-returns-2
 returns-2 c = rw (c .refuse .ensures, ← c .before .before .before .before .whole-u32 .ensures, ← c .before .before .before .fog-mode .ensures, c .before .enum-told .given .1)

@@ -6,7 +6,9 @@ use Rattle.pipeline.proofs.set_front_face.Tie as tie
 
 returns : tie.Need-returns
 unfolding pipelineStep accepted
-returns c = rw (c .accept .ensures, ← c .before .before .before .before .before .before .before .before .before .before .front-face .ensures, c .before .before .before .before .before .before .before .before .found .given .1)
+returns c =
+    let c8 = c .before .before .before .before .before .before .before .before in let c10 = c8 .before .before in
+    rw (c .accept .ensures, ← c10 .front-face .ensures, c8 .found .given .1)
 
 returns-2 : tie.Need-returns-2
 unfolding pipelineStep accepted

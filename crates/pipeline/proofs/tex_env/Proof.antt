@@ -24,7 +24,9 @@ returns-2 c =
 
 returns-3 : tie.Need-returns-3
 unfolding pipelineStep accepted bind
-returns-3 c = rw (c .refuse .ensures, eq-eqb _ 0x2200 (c .before .before .before .before .if1 .left), ← c .before .before .before .tex-env-mode .ensures, c .before .enum-told .given .1)
+returns-3 c =
+    let c3 = c .before .before .before in
+    rw (c .refuse .ensures, eq-eqb _ 0x2200 (c3 .before .if1 .left), ← c3 .tex-env-mode .ensures, c .before .enum-told .given .1)
 
 pub tex-env-spec : {M : Type 1} → statement M
 tex-env-spec =

@@ -22,7 +22,8 @@ returns-2 : tie.Need-returns-2
 returns-2 c =
     let a = c .before .before .before .before .before .before .before .before .before .args in
     let s = c .before .before .before .before .before .start-of in
-    (counts _ _ (omega arith), ap (λ (d : List ℕ). page d (s .result + length (now (a .text)))) (c .before .before .write .ensures) ∙ put-fits (now (a .area)) (a .at) (now (a .text)) (s .result) (s .ensures) (omega arith))
+    let fits = put-fits (now (a .area)) (a .at) (now (a .text)) (s .result) (s .ensures) (omega arith) in
+    (counts _ _ (omega arith), ap (λ (d : List ℕ). page d (s .result + length (now (a .text)))) (c .before .before .write .ensures) ∙ fits)
 
 pub put-spec : {M : Type 1} → statement M
 put-spec =

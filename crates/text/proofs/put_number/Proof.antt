@@ -18,7 +18,8 @@ returns c =
     let q = c .before .before .before .before .before .before .put in
     let d = c .before .before .before .before .before .before .before .before .before .decimal in
     let most : d .result ≤ 20 = few (d .result) (a .n) (d .ensures .1 .0) (omega (arith, start .fits .n)) in
-    (p .0, p .1 ∙ ap (put (page (now (a .area)) (a .at))) (behind 32 (replicate 20 32) _ _ (q .result) (omega arith) (q .ensures .1) ∙ ap spaced (d .ensures .1 .1 ∙ decimal-is (d .result) (a .n) (d .ensures .1 .0))))
+    let digits = d .ensures .1 .1 ∙ decimal-is (d .result) (a .n) (d .ensures .1 .0) in
+    (p .0, p .1 ∙ ap (put (page (now (a .area)) (a .at))) (behind 32 (replicate 20 32) _ _ (q .result) (omega arith) (q .ensures .1) ∙ ap spaced digits))
 
 pub put-number-spec : {M : Type 1} → statement M
 put-number-spec =

@@ -8,9 +8,11 @@ use Rattle.vertex.proofs.assemble.Tie as tie
 
 returns : tie.Need-returns
 returns c =
-    let args = c .before .before .before .before .before .before .before .before .before .before .before .before .before .before .before .before .before .args in
-    assembled (args .p) (sources (now (args .positions)) (now (args .colors)) (now (args .b0)) (now (args .b1)) (now (args .b2)) (now (args .b3))) (args .index) _ _ _ _ _ _
-    (c .before .before .before .before .before .before .before .before .before .element-or .ensures) (c .before .before .before .before .before .before .transform2 .ensures) (c .before .before .before .before .before .transform3 .ensures) (c .before .before .color-at .ensures) (c .before .pairs-at .ensures) (c .abs .ensures)
+    let c2 = c .before .before in let c5 = c2 .before .before .before in let c9 = c5 .before .before .before .before in
+    let args = c9 .before .before .before .before .before .before .before .before .args in
+    assembled (args .p) (sources (now (args .positions)) (now (args .colors)) (now (args .b0)) (now (args .b1)) (now (args .b2)) (now (args .b3))) (args .index)
+    _ _ _ _ _ _ (c9 .element-or .ensures) (c5 .before .transform2 .ensures) (c5 .transform3 .ensures) (c2 .color-at .ensures) (c .before .pairs-at .ensures)
+    (c .abs .ensures)
 
 pub assemble-spec : {M : Type 1} → statement M
 assemble-spec =

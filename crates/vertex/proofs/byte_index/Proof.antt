@@ -13,9 +13,12 @@ cast-result : tie.Need-cast-result
 cast-result c = omega (arith, c .shared-slice-known .given (c .before .before .args .i))
 
 returns : tie.Need-returns
-returns c = let bs = now (c .before .before .args .elements) in
-    le-part 1 bs (c .before .before .args .i) (omega (arith, c .before .if1 .taken)) (λ i. omega (arith, c .shared-slice-known .given i)) _ (rw (add-zero (c .before .before .args .i)) (omega arith)) .0
-    ∙ sym (numbers-in 1 _ bs (c .before .before .args .i) (c .before .before .args .i) (omega arith) (c .before .if1 .taken))
+returns c =
+    let args = c .before .before .args in
+    let bs = now (args .elements) in
+    le-part 1 bs (args .i) (omega (arith, c .before .if1 .taken)) (λ i. omega (arith, c .shared-slice-known .given i)) _
+    (rw (add-zero (args .i)) (omega arith)) .0
+    ∙ sym (numbers-in 1 _ bs (args .i) (args .i) (omega arith) (c .before .if1 .taken))
 
 returns-2 : tie.Need-returns-2
 returns-2 c = sym (numbers-out 1 _ (now (c .before .args .elements)) (c .before .args .i) (c .if1 .left))

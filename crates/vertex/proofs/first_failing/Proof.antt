@@ -16,7 +16,8 @@ use Rattle.vertex.proofs.first_failing.Statement.{statement}
 use Rattle.vertex.proofs.first_failing.Tie as tie
 
 abbrev Inv-loop : tie.InvT-loop
-Inv-loop store guest kind list elements n e bytes i₀ i = (i ≤ n) × (firstFrom (missing e bytes (indexList kind list elements)) i (n - i) ≡ firstFrom (missing e bytes (indexList kind list elements)) 0 n)
+Inv-loop store guest kind list elements n e bytes i₀ i = (i ≤ n)
+    × (firstFrom (missing e bytes (indexList kind list elements)) i (n - i) ≡ firstFrom (missing e bytes (indexList kind list elements)) 0 n)
 
 abbrev μ-loop : tie.MeasureT-loop
 μ-loop store guest kind list elements n e bytes i₀ i = n - i
@@ -25,21 +26,38 @@ loop-holds : tie.Need-loop-holds Inv-loop μ-loop
 loop-holds c = (search needs, rw sub-zero)
 
 loop-again : tie.Need-loop-again Inv-loop μ-loop
-loop-again c = (
-  omega (arith, c .before .before .before .if1 .left),
-  first-pass (missing (c .before .before .before .before .before .before .prepare .result) (now (c .before .before .before .before .before .source .result)) (indexList (c .before .before .before .before .before .before .before .before .before .before .before .before .before .args .kind) (now (c .before .before .before .before .before .before .before .before .before .before .before .before .before .args .list)) (now (c .before .before .before .before .before .before .before .before .before .before .before .before .before .args .elements)))) _ _ (c .before .before .before .if1 .left) (sym (λ j. not (isComponents (fetchedIn (c .before .before .before .before .before .before .prepare .result) (now (c .before .before .before .before .before .source .result)) (c .before .before .index-at .ensures j) false))) ∙ ap not (sym (c .before .is-fetched .ensures false)) ∙ ap not (not-false (c .before .is-fetched .result) (c .if2 .left)))
-      ∙ c .before .before .before .before .loop .inv .1,
-)
+loop-again c =
+    let c2 = c .before .before in let c4 = c2 .before .before in let c6 = c4 .before .before in
+    let args = c6 .before .before .before .before .before .before .before .args in (
+      omega (arith, c2 .before .if1 .left),
+      first-pass (missing (c6 .prepare .result) (now (c4 .before .source .result)) (indexList (args .kind) (now (args .list)) (now (args .elements))))
+          _ _ (c2 .before .if1 .left) (sym (λ j. not (isComponents (fetchedIn (c6 .prepare .result) (now (c4 .before .source .result)) (c2 .index-at .ensures j) false)))
+          ∙ ap not (sym (c .before .is-fetched .ensures false)) ∙ ap not (not-false (c .before .is-fetched .result) (c .if2 .left)))
+          ∙ c4 .loop .inv .1,
+    )
 
 returns : tie.Need-returns Inv-loop μ-loop
 unfolding first
-returns c = sym (first-none (missing (c .before .before .before .prepare .result) (now (c .before .before .source .result)) (indexList (c .before .before .before .before .before .before .before .before .before .before .args .kind) (now (c .before .before .before .before .before .before .before .before .before .before .args .list)) (now (c .before .before .before .before .before .before .before .before .before .before .args .elements)))) _ _ (c .if1 .taken)) ∙ c .before .loop .inv .1 ∙ ap (λ (f : ℕ → Bool). firstFrom f 0 (c .before .before .before .before .before .before .before .before .before .before .args .n)) (fails-are (c .before .before .before .before .before .before .before .before .before .before .args .s) (now (c .before .before .before .before .before .before .before .before .before .before .args .store)) (now (c .before .before .before .before .before .before .before .before .before .before .args .guest)) (indexList (c .before .before .before .before .before .before .before .before .before .before .args .kind) (now (c .before .before .before .before .before .before .before .before .before .before .args .list)) (now (c .before .before .before .before .before .before .before .before .before .before .args .elements))) (c .before .before .before .prepare .ensures (now (c .before .before .before .before .before .before .before .before .before .before .args .store))) (c .before .before .source .ensures))
+returns c =
+    let c2 = c .before .before in let args = c2 .before .before .before .before .before .before .before .before .args in
+    sym (first-none
+    (missing (c2 .before .prepare .result) (now (c2 .source .result)) (indexList (args .kind) (now (args .list)) (now (args .elements)))) _ _
+    (c .if1 .taken)) ∙ c .before .loop .inv .1 ∙ ap (λ (f : ℕ → Bool). firstFrom f 0 (args .n))
+    (fails-are (args .s) (now (args .store)) (now (args .guest)) (indexList (args .kind) (now (args .list)) (now (args .elements)))
+    (c2 .before .prepare .ensures (now (args .store))) (c2 .source .ensures))
 
 returns-2 : tie.Need-returns-2 Inv-loop μ-loop
 unfolding first
 returns-2 c =
-    sym (first-found (missing (c .before .before .before .before .before .before .prepare .result) (now (c .before .before .before .before .before .source .result)) (indexList (c .before .before .before .before .before .before .before .before .before .before .before .before .before .args .kind) (now (c .before .before .before .before .before .before .before .before .before .before .before .before .before .args .list)) (now (c .before .before .before .before .before .before .before .before .before .before .before .before .before .args .elements)))) _ _ (c .before .before .before .if1 .left) (sym (λ j. not (isComponents (fetchedIn (c .before .before .before .before .before .before .prepare .result) (now (c .before .before .before .before .before .source .result)) (c .before .before .index-at .ensures j) false))) ∙ ap not (sym (c .before .is-fetched .ensures false)) ∙ ap not (not-true (c .before .is-fetched .result) (c .if2 .taken))))
-    ∙ c .before .before .before .before .loop .inv .1 ∙ ap (λ (f : ℕ → Bool). firstFrom f 0 (c .before .before .before .before .before .before .before .before .before .before .before .before .before .args .n)) (fails-are (c .before .before .before .before .before .before .before .before .before .before .before .before .before .args .s) (now (c .before .before .before .before .before .before .before .before .before .before .before .before .before .args .store)) (now (c .before .before .before .before .before .before .before .before .before .before .before .before .before .args .guest)) (indexList (c .before .before .before .before .before .before .before .before .before .before .before .before .before .args .kind) (now (c .before .before .before .before .before .before .before .before .before .before .before .before .before .args .list)) (now (c .before .before .before .before .before .before .before .before .before .before .before .before .before .args .elements))) (c .before .before .before .before .before .before .prepare .ensures (now (c .before .before .before .before .before .before .before .before .before .before .before .before .before .args .store))) (c .before .before .before .before .before .source .ensures))
+    let c2 = c .before .before in let c4 = c2 .before .before in let c6 = c4 .before .before in
+    let args = c6 .before .before .before .before .before .before .before .args in
+    sym (first-found
+    (missing (c6 .prepare .result) (now (c4 .before .source .result)) (indexList (args .kind) (now (args .list)) (now (args .elements)))) _ _
+    (c2 .before .if1 .left) (sym (λ j. not (isComponents (fetchedIn (c6 .prepare .result) (now (c4 .before .source .result)) (c2 .index-at .ensures j) false)))
+    ∙ ap not (sym (c .before .is-fetched .ensures false)) ∙ ap not (not-true (c .before .is-fetched .result) (c .if2 .taken))))
+    ∙ c4 .loop .inv .1 ∙ ap (λ (f : ℕ → Bool). firstFrom f 0 (args .n))
+    (fails-are (args .s) (now (args .store)) (now (args .guest)) (indexList (args .kind) (now (args .list)) (now (args .elements)))
+    (c6 .prepare .ensures (now (args .store))) (c4 .before .source .ensures))
 
 pub first-failing-spec : {M : Type 1} → statement M
 first-failing-spec =

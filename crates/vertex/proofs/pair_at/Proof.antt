@@ -10,7 +10,10 @@ returns : tie.Need-returns
 returns c = rw (not-true (c .before .before .args .on) (c .if1 .taken))
 
 returns-2 : tie.Need-returns-2
-returns-2 c = pair-on (c .before .before .before .before .before .args .e) (now (c .before .before .before .before .before .args .bytes)) (c .before .before .before .before .before .args .index) (c .before .before .if2 .taken) (c .before .before .before .before .before .args .m) (c .before .before .before .before .before .args .on) (c .before .before .before .before .before .args .current) _ _ (not-false (c .before .before .before .before .before .args .on) (c .before .before .before .if1 .left)) (c .before .element-or .ensures) (c .transform-pair .ensures)
+returns-2 c =
+    let c2 = c .before .before in let args = c2 .before .before .before .args in
+    pair-on (args .e) (now (args .bytes)) (args .index) (c2 .if2 .taken) (args .m) (args .on) (args .current) _ _
+    (not-false (args .on) (c2 .before .if1 .left)) (c .before .element-or .ensures) (c .transform-pair .ensures)
 
 returns-3 : tie.Need-returns-3
 returns-3 c = rw (not-false (c .before .before .before .args .on) (c .before .if1 .left), c .if2 .left)

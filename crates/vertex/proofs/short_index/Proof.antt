@@ -11,10 +11,13 @@ use Rattle.vertex.proofs.short_index.Statement.{statement}
 use Rattle.vertex.proofs.short_index.Tie as tie
 
 returns : tie.Need-returns
-returns c = let start = c .before .before .before .before .before in
+returns c =
+    let c3 = c .before .before .before in
+    let start = c3 .before .before in
     let bs = now (start .args .elements) in
-    le-part 2 bs (2 * start .args .i) (omega (arith, c .before .before .before .if1 .taken)) (λ i. omega (arith, c .before .before .before .before .shared-slice-known .given i)) _ (rw (add-zero (2 * start .args .i)) (c .le16 .ensures)) .0
-    ∙ sym (numbers-in 2 _ bs (start .args .i) (2 * start .args .i) (omega arith) (c .before .before .before .if1 .taken))
+    le-part 2 bs (2 * start .args .i) (omega (arith, c3 .if1 .taken)) (λ i. omega (arith, c3 .before .shared-slice-known .given i)) _
+    (rw (add-zero (2 * start .args .i)) (c .le16 .ensures)) .0
+    ∙ sym (numbers-in 2 _ bs (start .args .i) (2 * start .args .i) (omega arith) (c3 .if1 .taken))
 
 returns-2 : tie.Need-returns-2
 returns-2 c = sym (numbers-out 2 _ (now (c .before .before .args .elements)) (c .before .before .args .i) (c .if1 .left))

@@ -15,17 +15,27 @@ returns : tie.Need-returns
 returns c = no-type _ _ _ _ _ _ (c .before .index-width .ensures) (c .if1 .taken)
 
 returns-2 : tie.Need-returns-2
-returns-2 c = absurd (quotient-not-less (c .before .before .before .before .before .args .count) (c .before .before .index-width .result) (omega (arith, c .before .before .before .before .before)) (widths _ _ (c .before .before .index-width .ensures) (c .before .if1 .left)) (c .if2 .taken))
+returns-2 c =
+    let c2 = c .before .before in let c5 = c2 .before .before .before in
+    absurd (quotient-not-less (c5 .args .count) (c2 .index-width .result) (omega (arith, c5)) (widths _ _ (c2 .index-width .ensures) (c .before .if1 .left))
+    (c .if2 .taken))
 
 mul-part-state : tie.Need-mul-part-state
-mul-part-state c = omega (arith, product-fits (c .before .before .before .before .before .before .args .count) (c .before .before .before .index-width .result) (omega (arith, c .before .before .before .before .before .before)) (widths _ _ (c .before .before .before .index-width .ensures) (c .before .before .if1 .left)))
+mul-part-state c =
+    let c2 = c .before .before in let c6 = c2 .before .before .before .before in
+    omega
+    (arith, product-fits (c6 .args .count) (c2 .before .index-width .result) (omega (arith, c6)) (widths _ _ (c2 .before .index-width .ensures) (c2 .if1 .left)))
 
 returns-3 : tie.Need-returns-3
-returns-3 c = let args = c .before .before .before .before .before .before .before .before .args in
+returns-3 c =
+    let c4 = c .before .before .before .before in let c8 = c4 .before .before .before .before in
+    let args = c8 .args in
     let s = sceneIn (args .s) (now (args .store)) (now (args .guest)) in
-    let w = c .before .before .before .before .before .index-width .result in
-    part-asked s _ _ _ _ w (c .before .before .before .before .before .index-width .ensures) (c .before .before .before .before .if1 .left) (product-fits (args .count) w (omega (arith, c .before .before .before .before .before .before .before .before)) (widths _ _ (c .before .before .before .before .before .index-width .ensures) (c .before .before .before .before .if1 .left))) _
-    (c .part-number .ensures ∙ ap (stateNumber (args .element)) (c .before .part-state .ensures) ∙ by-state (args .element) (partOf (s .contents) (s .base) (s .guest) (args .element) (args .pointer) (args .count * w)))
+    let w = c4 .before .index-width .result in
+    part-asked s _ _ _ _ w (c4 .before .index-width .ensures) (c4 .if1 .left)
+    (product-fits (args .count) w (omega (arith, c8)) (widths _ _ (c4 .before .index-width .ensures) (c4 .if1 .left))) _
+    (c .part-number .ensures ∙ ap (stateNumber (args .element)) (c .before .part-state .ensures)
+    ∙ by-state (args .element) (partOf (s .contents) (s .base) (s .guest) (args .element) (args .pointer) (args .count * w)))
 
 pub stored-number-spec : {M : Type 1} → statement M
 stored-number-spec =

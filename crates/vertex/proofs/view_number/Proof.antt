@@ -16,11 +16,17 @@ returns-2 c = let h : 4294967296 < c .before .before .args .base + c .before .be
 
 returns-3 : tie.Need-returns-3
 unfolding viewNumber
-returns-3 c = let h : c .before .before .before .args .base + c .before .before .before .args .len ≤ 4294967296 = omega (arith, c .before .before .if1 .left, c .before .if2 .left) in rw (le-ltb _ _ h, le-leb _ _ (c .if3 .taken))
+returns-3 c =
+    let c2 = c .before .before in
+    let h : c2 .before .args .base + c2 .before .args .len ≤ 4294967296 = omega (arith, c2 .if1 .left, c .before .if2 .left) in
+    rw (le-ltb _ _ h, le-leb _ _ (c .if3 .taken))
 
 returns-4 : tie.Need-returns-4
 unfolding viewNumber
-returns-4 c = let h : c .before .before .before .args .base + c .before .before .before .args .len ≤ 4294967296 = omega (arith, c .before .before .if1 .left, c .before .if2 .left) in rw (le-ltb _ _ h, lt-leb _ _ (c .if3 .left))
+returns-4 c =
+    let c2 = c .before .before in
+    let h : c2 .before .args .base + c2 .before .args .len ≤ 4294967296 = omega (arith, c2 .if1 .left, c .before .if2 .left) in
+    rw (le-ltb _ _ h, lt-leb _ _ (c .if3 .left))
 
 pub view-number-spec : {M : Type 1} → statement M
 view-number-spec = tie.close (tie.spec returns returns-2 returns-3 returns-4)

@@ -5,7 +5,9 @@ use Rattle.words.proofs.bytes_at.Statement.{statement}
 use Rattle.words.proofs.bytes_at.Tie as tie
 
 returns : tie.Need-returns
-returns c = part-is (c .before .before .before .before .args .bytes .now) (c .before .before .before .before .args .place) (c .before .before .before .before .args .n) _ _ (c .before .before .smaller .ensures) (c .before .smaller2 .ensures)
+returns c =
+    let c2 = c .before .before in let args = c2 .before .before .args in
+    part-is (args .bytes .now) (args .place) (args .n) _ _ (c2 .smaller .ensures) (c .before .smaller2 .ensures)
 
 pub bytes-at-spec : {M : Type 1} → statement M
 bytes-at-spec =

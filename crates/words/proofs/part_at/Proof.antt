@@ -6,7 +6,9 @@ use Rattle.words.proofs.part_at.Statement.{statement}
 use Rattle.words.proofs.part_at.Tie as tie
 
 returns : tie.Need-returns
-returns c = c .bytes-at .ensures ∙ (λ i. take (c .before .long-at2 .ensures i) (drop (c .before .before .long-at .ensures i) (c .before .before .before .before .before .args .bytes .now)))
+returns c =
+    let c2 = c .before .before in let c5 = c2 .before .before .before in
+    c .bytes-at .ensures ∙ (λ i. take (c .before .long-at2 .ensures i) (drop (c2 .long-at .ensures i) (c5 .args .bytes .now)))
 
 pub part-at-spec : {M : Type 1} → statement M
 part-at-spec =

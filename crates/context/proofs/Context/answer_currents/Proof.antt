@@ -9,7 +9,9 @@ returns : tie.Need-returns
 returns c = rw (c .refuse .ensures) (settled-unsound (c .before .before .is-sound .ensures .no (not-true _ (c .before .if1 .taken))))
 
 returns-2 : tie.Need-returns-2
-returns-2 c = settled (c .before .before .before .is-sound .ensures .yes (not-false _ (c .before .before .if1 .left))) (rw (c .before .with-currents .ensures, c .slot-after .ensures))
+returns-2 c =
+    let c2 = c .before .before in
+    settled (c2 .before .is-sound .ensures .yes (not-false _ (c2 .if1 .left))) (rw (c .before .with-currents .ensures, c .slot-after .ensures))
 
 pub answer-currents-spec : {M : Type 1} → statement M
 answer-currents-spec =

@@ -12,7 +12,10 @@ returns-2 : tie.Need-returns-2
 returns-2 c = part-unsound (λ h. c .before .is-unit2 .ensures .no (not-true _ (c .if2 .taken)) (h .active-unit))
 
 returns-3 : tie.Need-returns-3
-returns-3 c = apart-sound _ (c .before .before .before .before .before .is-unit .ensures .yes (not-false _ (c .before .before .before .before .if1 .left))) (c .before .before .before .is-unit2 .ensures .yes (not-false _ (c .before .before .if2 .left))) (c .stacks-sound .ensures)
+returns-3 c =
+    let c2 = c .before .before in let c4 = c2 .before .before in
+    apart-sound _ (c4 .before .is-unit .ensures .yes (not-false _ (c4 .if1 .left))) (c2 .before .is-unit2 .ensures .yes (not-false _ (c2 .if2 .left)))
+    (c .stacks-sound .ensures)
 
 pub is-sound-apart-spec : {M : Type 1} → statement M
 is-sound-apart-spec =
