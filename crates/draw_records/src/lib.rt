@@ -21,7 +21,7 @@ fn draw_words(w: &[u32], len: usize) -> DrawWords
 {
     let mode = words::word_at(w, 0);
     let stages = words::word_at(w, 1);
-    let room = words::smaller(words::long_at(w, 2), len);
+    let room = number::smaller(words::long_at(w, 2), len);
     let base = words::word_at(w, 4);
     DrawWords {
         mode,

@@ -7,7 +7,7 @@ use Rattle.driver.proofs.draw_list.Statement.{statement}
 use Rattle.driver.proofs.draw_list.Tie as tie
 
 returns : tie.Need-returns
-returns c = did-as (ap list (c .before .before .before .before .words-from .ensures)) (c .before .before .before .before .before .before .word-at .ensures) (c .before .before .before .before .before .word-at2 .ensures) (c .before .before .draw-elements .ensures)
+returns c = did-as (ap list (c .before .before .before .before .words-from .ensures)) (c .before .before .before .before .before .before .word-at .ensures) (c .before .before .before .before .before .word-at2 .ensures) (c .before .before .draw-elements-at .ensures)
 
 pub draw-list-spec : {M : Type 1} → statement M
 draw-list-spec =

@@ -6,7 +6,7 @@ use Rattle.driver.proofs.draw_range.Statement.{statement}
 use Rattle.driver.proofs.draw_range.Tie as tie
 
 returns : tie.Need-returns
-returns c = did-as (λ i. range (c .before .before .before .before .before .word-at3 .ensures i) (c .before .before .before .before .word-at4 .ensures i)) (c .before .before .before .before .before .before .before .word-at .ensures) (c .before .before .before .before .before .before .word-at2 .ensures) (c .before .before .draw-arrays .ensures)
+returns c = did-as (λ i. range (c .before .before .before .before .before .word-at3 .ensures i) (c .before .before .before .before .word-at4 .ensures i)) (c .before .before .before .before .before .before .before .word-at .ensures) (c .before .before .before .before .before .before .word-at2 .ensures) (c .before .before .draw-arrays-at .ensures)
 
 pub draw-range-spec : {M : Type 1} → statement M
 draw-range-spec =

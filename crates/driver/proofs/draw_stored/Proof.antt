@@ -6,7 +6,7 @@ use Rattle.driver.proofs.draw_stored.Statement.{statement}
 use Rattle.driver.proofs.draw_stored.Tie as tie
 
 returns : tie.Need-returns
-returns c = did-as (λ i. elements (c .before .before .before .before .before .before .word-at3 .ensures i) (c .before .before .before .before .before .word-at4 .ensures i) (c .before .before .before .before .word-at5 .ensures i)) (c .before .before .before .before .before .before .before .before .word-at .ensures) (c .before .before .before .before .before .before .before .word-at2 .ensures) (c .before .before .draw-elements-from-guest .ensures)
+returns c = did-as (λ i. elements (c .before .before .before .before .before .before .word-at3 .ensures i) (c .before .before .before .before .before .word-at4 .ensures i) (c .before .before .before .before .word-at5 .ensures i)) (c .before .before .before .before .before .before .before .before .word-at .ensures) (c .before .before .before .before .before .before .before .word-at2 .ensures) (c .before .before .draw-elements-from-guest-at .ensures)
 
 pub draw-stored-spec : {M : Type 1} → statement M
 draw-stored-spec =

@@ -4,10 +4,10 @@ use mathlib.Core.Path.{_≡_, subst}
 use mathlib.Core.Logic.{⊎-elim}
 use Prim.Native.Nat.{ℕ, _+_, _<_, _≤_}
 use native.Mathlib.Omega.{arith}
 use Rattle.buffers.specs.declared.Slot.{Slot}
 use Rattle.buffers.specs.Objects.{slotCount, nameAt}
 use Rattle.buffers.proofs.Bounds.{lt-or-ge}
-use Rattle.answers.specs.Live.{NextLive}
+use Rattle.buffers.specs.Live.{NextLive}
 
 pub none-yet : (slots : List Slot) (above : ℕ) → NextLive slots above 0 slotCount
 none-yet slots above = record { within = omega arith; found = λ l. absurd (omega arith); least = λ k l u. absurd (omega arith) }

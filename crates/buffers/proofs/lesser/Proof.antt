@@ -1,9 +1,9 @@
--- `answers::lesser` meets its contract: the next slot is the one sought, or not.
+-- `buffers::lesser` meets its contract: the next slot is the one sought, or not.
 use native.Mathlib.Omega.{arith}
-use Rattle.answers.proofs.Living.{stays, moves}
+use Rattle.buffers.proofs.Living.{stays, moves}
 use borrow.Author.Needs.{needs}
-use Rattle.answers.proofs.lesser.Statement.{statement}
-use Rattle.answers.proofs.lesser.Tie as tie
+use Rattle.buffers.proofs.lesser.Statement.{statement}
+use Rattle.buffers.proofs.lesser.Tie as tie
 
 returns : tie.Need-returns
 returns c = stays (c .before .before .args .b .slots) (c .before .before .args .above) (c .before .before .args .k) (c .before .before .args .best) (c .before .before .pre .0) (λ u. absurd (omega (arith, u, c .if1 .taken, c .before .slot-name .ensures)))

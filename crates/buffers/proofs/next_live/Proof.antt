@@ -1,11 +1,11 @@
--- `answers::next_live` meets its contract: after k turns it is sought among the first k slots.
+-- `buffers::next_live` meets its contract: after k turns it is sought among the first k slots.
 use Prim.Native.Nat.{_-_, _≤_}
 use native.Mathlib.Omega.{arith}
 use mathlib.Core.Path.{subst}
-use Rattle.answers.specs.Live.{NextLive}
-use Rattle.answers.proofs.Living.{none-yet}
-use Rattle.answers.proofs.next_live.Statement.{statement}
-use Rattle.answers.proofs.next_live.Tie as tie
+use Rattle.buffers.specs.Live.{NextLive}
+use Rattle.buffers.proofs.Living.{none-yet}
+use Rattle.buffers.proofs.next_live.Statement.{statement}
+use Rattle.buffers.proofs.next_live.Tie as tie
 
 abbrev Inv-loop : tie.InvT-loop
 Inv-loop b above best₀ k₀ best k = (k ≤ 16) × NextLive (b .slots) above k best

@@ -1,12 +1,12 @@
--- `answers::slot_name` meets its contract: past the slots the name is a free slot's, 0.
+-- `buffers::slot_name` meets its contract: past the slots the name is a free slot's, 0.
 use mathlib.Core.Path.{_≡_, sym, ap}
 use native.Mathlib.Omega.{arith}
 use lib.ListN.{length, List·getD-eq-default}
 use borrow.Author.Needs.{needs}
 use Rattle.number.proofs.Lists.{length-mapped}
 use Rattle.buffers.specs.Objects.{freeSlot}
-use Rattle.answers.proofs.slot_name.Statement.{statement}
-use Rattle.answers.proofs.slot_name.Tie as tie
+use Rattle.buffers.proofs.slot_name.Statement.{statement}
+use Rattle.buffers.proofs.slot_name.Tie as tie
 
 returns-2 : tie.Need-returns-2
 returns-2 c =
