@@ -1,8 +1,8 @@
--- `draw::triangle_count` meets its contract: each arm is the case of the primitive.
+-- `corners::triangle_count` meets its contract: each arm is the case of the primitive.
 use native.Mathlib.Omega.{arith}
 use borrow.Author.Needs.{needs}
-use Rattle.draw.proofs.triangle_count.Statement.{statement}
-use Rattle.draw.proofs.triangle_count.Tie as tie
+use Rattle.corners.proofs.triangle_count.Statement.{statement}
+use Rattle.corners.proofs.triangle_count.Tie as tie
 
 returns : tie.Need-returns
 returns c = rw (c .enum-told .given .1)

@@ -1,7 +1,7 @@
--- `draw::primitive_of` meets its contract: each return is the case that its test says.
+-- `corners::primitive_of` meets its contract: each return is the case that its test says.
 use borrow.Author.Tests.{eq-eqb, ne-eqb}
-use Rattle.draw.proofs.primitive_of.Statement.{statement}
-use Rattle.draw.proofs.primitive_of.Tie as tie
+use Rattle.corners.proofs.primitive_of.Statement.{statement}
+use Rattle.corners.proofs.primitive_of.Tie as tie
 
 returns : tie.Need-returns
 returns c = rw (eq-eqb _ 4 (c .if1 .taken))
