@@ -44,7 +44,7 @@ fn make_list_draw<'a>(
     let guest = words::part_at(bytes, w, 5);
     let indices = words::words_from(w, 9);
     let room = d.room;
-    gles::draw_elements(
+    gles_draws::draw_elements(
         c,
         store,
         d.base,
@@ -70,7 +70,7 @@ fn make_range_draw<'a>(
     let first = words::word_at(w, 9);
     let count = words::word_at(w, 10);
     let room = d.room;
-    gles::draw_arrays(
+    gles_draws::draw_arrays(
         c,
         store,
         d.base,
@@ -98,7 +98,7 @@ fn make_stored_draw<'a>(
     let ty = words::word_at(w, 10);
     let pointer = words::word_at(w, 11);
     let room = d.room;
-    gles::draw_elements_from_guest(
+    gles_draws::draw_elements_from_guest(
         c,
         store,
         d.base,

@@ -41,7 +41,7 @@ pub fn draw_elements<'a>(
     ensures { λ r. ⌜ Did (Call.draw (drawCall (Source.list (now (indices .entry))) mode stages (view .entry .base) (now (view .entry .bytes)) (length (now (out .entry))))) c (now (store .entry)) (r .number) (r .context) (now (store .entry)) ⌝ }
     ensures { λ r. ⌜ Drew (drawCall (Source.list (now (indices .entry))) mode stages (view .entry .base) (now (view .entry .bytes)) (length (now (out .entry)))) c (now (store .entry)) (drawnOf r) (now (out .entry)) (now (out .exit)) ⌝ }
 {
-    gles::draw_elements(c, store, view.base, view.bytes, mode, indices, stages, out)
+    gles_draws::draw_elements(c, store, view.base, view.bytes, mode, indices, stages, out)
 }
 
 // A draw of the indices from `first` on.
@@ -58,7 +58,7 @@ pub fn draw_arrays<'a>(
     ensures { λ r. ⌜ Did (Call.draw (drawCall (Source.range first count) mode stages (view .entry .base) (now (view .entry .bytes)) (length (now (out .entry))))) c (now (store .entry)) (r .number) (r .context) (now (store .entry)) ⌝ }
     ensures { λ r. ⌜ Drew (drawCall (Source.range first count) mode stages (view .entry .base) (now (view .entry .bytes)) (length (now (out .entry)))) c (now (store .entry)) (drawnOf r) (now (out .entry)) (now (out .exit)) ⌝ }
 {
-    gles::draw_arrays(
+    gles_draws::draw_arrays(
         c,
         store,
         view.base,
@@ -86,7 +86,7 @@ pub fn draw_elements_from_guest<'a>(
     ensures { λ r. ⌜ Did (Call.draw (drawCall (Source.elements count ty pointer) mode stages (view .entry .base) (now (view .entry .bytes)) (length (now (out .entry))))) c (now (store .entry)) (r .number) (r .context) (now (store .entry)) ⌝ }
     ensures { λ r. ⌜ Drew (drawCall (Source.elements count ty pointer) mode stages (view .entry .base) (now (view .entry .bytes)) (length (now (out .entry)))) c (now (store .entry)) (drawnOf r) (now (out .entry)) (now (out .exit)) ⌝ }
 {
-    gles::draw_elements_from_guest(
+    gles_draws::draw_elements_from_guest(
         c,
         store,
         view.base,
