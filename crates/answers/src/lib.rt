@@ -1,14 +1,8 @@
 // The lines of a trace's answers, written to standard output. A line is a name, numbers, words of f32.
-use buffers::Buffers;
-use buffers::SLOT_COUNT;
 use stack::Matrix;
 use stack::MatrixStack;
 use stack::SAVED_LIMIT;
-ghost use mathlib.Core.Path.{_≡_};
-ghost use Prim.Native.Nat.{_+_, _<_};
 ghost use Rattle.io.specs.Counts.{Counts};
-ghost use Rattle.buffers.specs.Objects.{slotCount, nameAt};
-ghost use Rattle.answers.specs.Live.{NextLive};
 
 const STDOUT: i32 = 1;
 
@@ -173,7 +167,7 @@ fn say_saved(s: MatrixStack, k: usize) {
 
 // The saved matrices, the oldest first. A stack whose saved count is above 15 has 15.
 fn say_all_saved(s: MatrixStack) {
-    let end = words::smaller(s.depth, SAVED_LIMIT);
+    let end = number::smaller(s.depth, SAVED_LIMIT);
     let mut k: usize = 0;
     while k < end {
         say_saved(s, k);
@@ -190,44 +184,4 @@ pub fn say_matrices(name: &[u8], numbers: &[u64], s: MatrixStack) {
 
 pub fn say_stack(s: MatrixStack) {
     say_matrices(b"STACK_SHOW", &[s.depth as u64], s);
-}
-
-// ---- live buffers
-
-// The slot of those two that has the lesser name above a number; slot 16 has none.
-fn lesser(b: Buffers, above: u32, best: usize, k: usize) -> usize
-    requires { ⌜ NextLive (b .slots) above k best ⌝ }
-    requires { ⌜ k < slotCount ⌝ }
-    ensures { λ r. ⌜ NextLive (b .slots) above (k + 1) r ⌝ }
-{
-    if slot_name(b, k) <= above {
-        return best;
-    }
-    if SLOT_COUNT <= best {
-        return k;
-    }
-    if slot_name(b, k) < slot_name(b, best) {
-        return k;
-    }
-    best
-}
-
-// The slot of the least live name above a number, 16 where there is none.
-pub fn next_live(b: Buffers, above: u32) -> usize
-    ensures { λ r. ⌜ NextLive (b .slots) above slotCount r ⌝ }
-{
-    let mut best = SLOT_COUNT;
-    let mut k: usize = 0;
-    while k < SLOT_COUNT {
-        best = lesser(b, above, best, k);
-        k += 1;
-    }
-    best
-}
-
-// The name in slot k, 0 where there is no slot k.
-pub fn slot_name(b: Buffers, k: usize) -> u32
-    ensures { λ r. ⌜ r ≡ nameAt (b .slots) k ⌝ }
-{
-    if k < SLOT_COUNT { b.slots[k].name } else { 0 }
 }

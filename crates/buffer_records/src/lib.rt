@@ -12,7 +12,7 @@ ghost use Rattle.records.specs.Perform.{bufferValue, Gives};
 fn make_gen(c: Context, n: usize) -> CallReply
     ensures { λ r. ⌜ (r .known ≡ true) × Gives (Call.object (ObjectCall.buffer (BufferCall.gen n))) c (r .number) (r .value) (r .context) ⌝ }
 {
-    let g = gles::gen_buffers(c, n);
+    let g = gles_buffers::gen_buffers(c, n);
     let number = g.number;
     let value = g.first as usize;
     let context = g.context;
@@ -31,7 +31,7 @@ fn make_data(c: Context, store: &mut [u8], w: &[u32], bytes: &[u8]) -> Reply
     let size = words::long_at(w, 1);
     let usage = words::word_at(w, 3);
     let part = words::part_at(bytes, w, 4);
-    gles::buffer_data(c, store, target, size, part, usage)
+    gles_buffers::buffer_data(c, store, target, size, part, usage)
 }
 
 fn make_sub_data(c: Context, store: &mut [u8], w: &[u32], bytes: &[u8]) -> Reply
@@ -40,7 +40,7 @@ fn make_sub_data(c: Context, store: &mut [u8], w: &[u32], bytes: &[u8]) -> Reply
     let target = words::word_at(w, 0);
     let offset = words::word_at(w, 1);
     let part = words::part_at(bytes, w, 2);
-    gles::buffer_sub_data(c, store, target, offset, part)
+    gles_buffers::buffer_sub_data(c, store, target, offset, part)
 }
 
 pub fn make_buffer(c: Context, store: &mut [u8], code: u32, w: &[u32], bytes: &[u8]) -> CallReply
@@ -50,8 +50,12 @@ pub fn make_buffer(c: Context, store: &mut [u8], code: u32, w: &[u32], bytes: &[
 {
     match code {
         0x20 => make_gen(c, words::long_at(w, 0)),
-        0x21 => records::replied(gles::bind_buffer(c, words::word_at(w, 0), words::word_at(w, 1))),
-        0x22 => records::replied(gles::delete_buffers(c, w)),
+        0x21 => records::replied(gles_buffers::bind_buffer(
+            c,
+            words::word_at(w, 0),
+            words::word_at(w, 1),
+        )),
+        0x22 => records::replied(gles_buffers::delete_buffers(c, w)),
         0x23 => records::replied(make_data(c, store, w, bytes)),
         _ => records::replied(make_sub_data(c, store, w, bytes)),
     }

@@ -5,8 +5,9 @@ use mathlib.Core.Path.{_≡_, sym, ap, _∙_}
 use mathlib.Core.Logic.{_⊎_, inl, inr, ⊎-elim}
 use native.Mathlib.Omega.{arith}
 use lib.ListN.{length, getD, take, drop, replicate, length-append, length-take, length-drop, length-replicate, getD-replicate, List·getD-append, List·getD-eq-default}
-use lib.Seq.{getD-append-add, getD-take, getD-drop, ext-getD, length-take-le, take-length, take-append-seam, paste}
-use Rattle.buffers.specs.Objects.{padded, overwrite}
+use lib.Seq.{getD-append-add, getD-take, getD-drop, ext-getD, length-take-le, take-length, take-append-seam, take-append-le, take-take, paste}
+use Rattle.number.specs.Bytes.{overwrite}
+use Rattle.buffers.specs.Objects.{padded}
 use Rattle.buffers.proofs.Bounds.{lt-or-ge}
 
 -- past the first of two lists
@@ -114,3 +115,9 @@ within old base n off new h inside =
 pub paste-all : (old : List ℕ) (at : ℕ) (new : List ℕ) (n : ℕ) → n ≡ length new → paste old at new n ≡ overwrite old at new
 unfolding overwrite
 paste-all old at new n e = rw (e, take-length)
+
+-- the first n bytes in their place
+pub first-part : (old : List ℕ) (at n size : ℕ) (bytes : List ℕ) → n ≤ length bytes → n ≤ size → overwrite old at (take n bytes) ≡ paste old at (padded size bytes) n
+unfolding overwrite padded
+first-part old at n size bytes h l =
+    rw (length-take-le n bytes h, take-take n size (bytes ++ replicate size 0) l, take-append-le n bytes (replicate size 0) h)

@@ -9,3 +9,4 @@ pub mod Generation
 pub mod Bytes
 pub mod Uploads
 pub mod Deciding
+pub mod Living

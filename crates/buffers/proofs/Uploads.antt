@@ -10,8 +10,9 @@ use lib.Dec.{eqb}
 use lib.ListN.{length, getD, take, drop, set, length-take, length-drop}
 use lib.Seq.{set-getD}
 use borrow.Author.Tests.{lt-ltb, le-ltb, ne-eqb}
+use Rattle.number.specs.Bytes.{overwrite}
 use Rattle.buffers.specs.Objects.{Objects, objects, Answer, answer, AnswersIn, Bindable, Sound, slotOf, nameAt, lenAt, freeSlot, bytesAt, contentsOf, put, padded}
-use Rattle.buffers.specs.Objects.{overwrite, boundAt, isTarget, bufferData, bufferSubData, bytesOf, withSlot}
+use Rattle.buffers.specs.Objects.{boundAt, isTarget, bufferData, bufferSubData, bytesOf, withSlot}
 use Rattle.buffers.specs.declared.Slot.{Slot}
 use Rattle.buffers.specs.declared.Buffers.{Buffers}
 use Rattle.buffers.proofs.Bounds.{lt-or-ge}

@@ -8,6 +8,7 @@ use mathlib.Core.Path.{_≡_}
 use lib.ListN.{length, getD, take, drop, set, replicate}
 use lib.Dec.{eqb, ltb, leb}
 use Rattle.number.specs.Decides.{Decides}
+use Rattle.number.specs.Bytes.{overwrite}
 use Rattle.buffers.specs.Bounded.{first, count}
 use Rattle.buffers.specs.declared.Slot.{Slot}
 use Rattle.buffers.specs.declared.Buffers.{Buffers}
@@ -253,10 +254,6 @@ bufferData o target size bytes =
     (cond (eqb (boundAt o target) 0) (answer 0x0502 o)
     (cond (ltb slotBytes size) (answer 6 o)
     (answer 0 (put o (boundAt o target) (padded size bytes)))))
-
--- the bytes with a part overwritten from `at` on
-unfoldable pub overwrite : List ℕ → ℕ → List ℕ → List ℕ
-overwrite old at new = take at old ++ new ++ drop (at + length new) old
 
 unfoldable pub bufferSubData : Objects → ℕ → ℕ → List ℕ → Answer
 bufferSubData o target at bytes =

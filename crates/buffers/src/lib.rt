@@ -1,13 +1,15 @@
 ghost use mathlib.Core.Path.{_≡_};
 ghost use mathlib.Core.List.{List};
 ghost use mathlib.Core.Bool.{true, cond};
-ghost use Prim.Native.Nat.{ℕ, _+_, _<_, _≤_, min, max};
+ghost use Prim.Native.Nat.{ℕ, _+_, _<_, _≤_, max};
 ghost use lib.ListN.{length};
 ghost use lib.Seq.{paste};
 ghost use lib.Dec.{eqb, ltb};
 ghost use Rattle.number.specs.Decides.{Decides};
-ghost use Rattle.buffers.specs.Objects.{slotCount, lastName, slotOf, withSlot, lenAt, Bindable, Sound, SoundIs, SlotFits, IsFresh, objects, Made};
-ghost use Rattle.buffers.specs.Objects.{Answers, bindBuffer, AnswersIn, bufferData, bufferSubData, padded, overwrite, isTarget, boundAt, deleteName};
+ghost use Rattle.number.specs.Bytes.{overwrite};
+ghost use Rattle.buffers.specs.Live.{NextLive};
+ghost use Rattle.buffers.specs.Objects.{nameAt, slotCount, lastName, slotOf, withSlot, lenAt, Bindable, Sound, SoundIs, SlotFits, IsFresh, objects, Made};
+ghost use Rattle.buffers.specs.Objects.{Answers, bindBuffer, AnswersIn, bufferData, bufferSubData, padded, isTarget, boundAt, deleteName};
 ghost use Rattle.buffers.specs.Objects.{Steps, deleteBuffers, Generates, liveIn};
 
 // Limits: slots, bytes of a slot's block, bytes of the store, and the number that no name reaches.
@@ -246,28 +248,6 @@ pub fn bind_buffer(b: Buffers, target: u32, name: u32) -> Answered
     }
 }
 
-// The smaller of two numbers.
-fn smaller(a: usize, b: usize) -> usize
-    ensures { λ r. ⌜ r ≡ min a b ⌝ }
-{
-    if a < b {
-        return a;
-    }
-    b
-}
-
-// Copies the first n bytes of the data.
-fn copy_bytes(store: &mut [u8], at: usize, n: usize, data: &[u8])
-    requires { ⌜ (at + n ≤ length (now store)) × (n ≤ length (now «data»)) ⌝ }
-    ensures { λ r. ⌜ ((size : ℕ) → n ≤ size → now (store .exit) ≡ paste (now (store .entry)) at (padded size (now («data» .entry))) n) ⌝ }
-{
-    let mut i = 0;
-    while i < n {
-        store[at + i] = data[i];
-        i += 1;
-    }
-}
-
 // Zeroes the bytes after the first n, up to `size`.
 fn clear_bytes(store: &mut [u8], at: usize, n: usize, size: usize)
     requires { ⌜ (at + size ≤ length (now store)) × (n ≤ size) ⌝ }
@@ -287,8 +267,8 @@ fn write_padded(store: &mut [u8], at: usize, size: usize, data: &[u8])
     requires { ⌜ at + size ≤ length (now store) ⌝ }
     ensures { λ r. ⌜ now (store .exit) ≡ overwrite (now (store .entry)) at (padded size (now («data» .entry))) ⌝ }
 {
-    let n = smaller(size, data.len());
-    copy_bytes(&mut store[..], at, n, data);
+    let n = number::smaller(size, data.len());
+    bytes::copy(&data[..n], &mut store[at..]);
     if data.len() < size {
         clear_bytes(&mut store[..], at, n, size);
     }
@@ -551,4 +531,42 @@ pub fn gen_buffers(b: Buffers, n: usize) -> Generated
         first: b.next,
         buffers: out,
     }
+}
+
+// The slot of those two that has the lesser name above a number; slot 16 has none.
+fn lesser(b: Buffers, above: u32, best: usize, k: usize) -> usize
+    requires { ⌜ NextLive (b .slots) above k best ⌝ }
+    requires { ⌜ k < slotCount ⌝ }
+    ensures { λ r. ⌜ NextLive (b .slots) above (k + 1) r ⌝ }
+{
+    if slot_name(b, k) <= above {
+        return best;
+    }
+    if SLOT_COUNT <= best {
+        return k;
+    }
+    if slot_name(b, k) < slot_name(b, best) {
+        return k;
+    }
+    best
+}
+
+// The slot of the least live name above a number, 16 where there is none.
+pub fn next_live(b: Buffers, above: u32) -> usize
+    ensures { λ r. ⌜ NextLive (b .slots) above slotCount r ⌝ }
+{
+    let mut best = SLOT_COUNT;
+    let mut k: usize = 0;
+    while k < SLOT_COUNT {
+        best = lesser(b, above, best, k);
+        k += 1;
+    }
+    best
+}
+
+// The name in slot k, 0 where there is no slot k.
+pub fn slot_name(b: Buffers, k: usize) -> u32
+    ensures { λ r. ⌜ r ≡ nameAt (b .slots) k ⌝ }
+{
+    if k < SLOT_COUNT { b.slots[k].name } else { 0 }
 }

@@ -1,16 +1,17 @@
 -- The corners of triangles, one after the other, and what stands of them in the output. Assumes nothing.
-use mathlib.Core.Bool.{Bool, true, false, cond}
+use mathlib.Core.Bool.{Bool, true, false}
 use mathlib.Core.List.{List, [], _∷_, _++_, append-assoc}
 use mathlib.Core.Option.{Option}
 use mathlib.Core.Path.{_≡_, refl, sym, ap, _∙_}
-use Prim.Native.Nat.{ℕ, zero, suc, _+_, _*_, _/_, _%_, _<_, _≤_}
+use Prim.Native.Nat.{ℕ, zero, suc, _+_, _*_, _<_, _≤_}
 use native.Mathlib.Numerals.{add-one}
 use native.Mathlib.Omega.{arith}
-use borrow.Author.Tests.{eq-eqb, eqb-true, eqb-false}
+use borrow.Author.Tests.{eqb-true, eqb-false}
 use lib.Dec.{eqb}
 use lib.ListN.{length, getD, take, drop, length-append, length-take, length-drop, take-append-drop}
 use lib.Seq.{sets, sets-eq, drop-cons, take-append-le, drop-append-le, take-append-seam, drop-append-seam, take-all}
 use lib.Ieee.{Float, nan}
+use Rattle.corners.proofs.Places.{place-a, place-b, place-c}
 use Rattle.buffers.specs.Objects.{contentsOf}
 use Rattle.vertex.specs.Scene.{sceneIn}
 use Rattle.vertex.specs.Vertex.{vertexWords}
@@ -19,10 +20,11 @@ use Rattle.vertex.specs.declared.Plan.{Plan}
 use Rattle.vertex.specs.declared.Scene as Code
 use Rattle.vertex.specs.declared.Vertex.{Vertex}
 use Rattle.vertex.proofs.Plans.{vertex-is}
-use Rattle.draw.specs.Triangles.{cornersOf, threeWords, trianglesTo, wordsOf}
-use Rattle.draw.specs.Corners.{cornerPlace, cornerIndex, cornerWords, Stands}
+use Rattle.corners.specs.Places.{cornersOf, cornerPlace}
+use Rattle.draw.specs.Triangles.{threeWords, trianglesTo, wordsOf}
+use Rattle.draw.specs.Corners.{cornerIndex, cornerWords, Stands}
 use Rattle.draw.specs.Draw.{vertexAt}
-use Rattle.draw.specs.declared.Primitive.{Primitive}
+use Rattle.corners.specs.declared.Primitive.{Primitive}
 use Rattle.draw.proofs.Laws.{words-more}
 
 length-vertex : (v : Vertex) → length (vertexWords v) ≡ 17
@@ -86,16 +88,6 @@ module _ (vertex : ℕ → Vertex) where
 
 -- ---- the corners of triangles
 
-module _ (p : Primitive) (n : ℕ) where
-  place-a : cornerPlace p (3 * n) ≡ cornersOf p n .a
-  place-a = let r : 3 * n % 3 ≡ 0 = omega arith in let q : 3 * n / 3 ≡ n = omega arith in rw (eq-eqb (3 * n % 3) 0 r, q)
-
-  place-b : cornerPlace p (3 * n + 1) ≡ cornersOf p n .b
-  place-b = let r : (3 * n + 1) % 3 ≡ 1 = omega arith in let q : (3 * n + 1) / 3 ≡ n = omega arith in rw (r, q)
-
-  place-c : cornerPlace p (3 * n + 1 + 1) ≡ cornersOf p n .c
-  place-c = let r : (3 * n + 1 + 1) % 3 ≡ 2 = omega arith in let q : (3 * n + 1 + 1) / 3 ≡ n = omega arith in rw (r, q)
-
 three-more : (vertex : ℕ → Vertex) (p : Primitive) (n : ℕ) → cornerWords (λ c. vertex (cornerPlace p c)) (3 * n) ≡ wordsOf (trianglesTo vertex p n)
     → cornerWords (λ c. vertex (cornerPlace p c)) (3 * suc n) ≡ wordsOf (trianglesTo vertex p (suc n))
 unfolding threeWords
@@ -114,15 +106,6 @@ pub corner-words : (vertex : ℕ → Vertex) (p : Primitive) (n : ℕ) → corne
 unfolding cornerWords trianglesTo wordsOf
 corner-words vertex p zero = refl
 corner-words vertex p (suc n) = three-more vertex p n (corner-words vertex p n)
-
--- a list's corner is at its own place
-pub list-place : (c : ℕ) → c ≡ cornerPlace Primitive.Triangles c
-list-place c = go (eqb (c % 3) 0) (eqb (c % 3) 1) refl refl
-  where
-    go : (a b : Bool) → eqb (c % 3) 0 ≡ a → eqb (c % 3) 1 ≡ b → c ≡ cond a (3 * (c / 3)) (cond b (3 * (c / 3) + 1) (3 * (c / 3) + 2))
-    go true b e f = omega (arith, eqb-true (c % 3) 0 e)
-    go false true e f = omega (arith, eqb-true (c % 3) 1 f)
-    go false false e f = omega (arith, eqb-false (c % 3) 0 e, eqb-false (c % 3) 1 f)
 
 -- ---- reading 17 words
 

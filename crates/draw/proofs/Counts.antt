@@ -15,8 +15,9 @@ use Rattle.vertex.specs.Questions.{positionAt, fails, failingPlace, hasVertices
 use Rattle.vertex.proofs.Search.{first-real}
 use Rattle.vertex.proofs.IndexLists.{length-upFrom, length-numbers}
 use Rattle.vertex.proofs.Sources.{part-there}
-use Rattle.draw.specs.Triangles.{triangleCount, Triangle}
-use Rattle.draw.specs.Draw.{primitiveOf, trianglesOf, drawIn, Drawing}
+use Rattle.corners.specs.Places.{triangleCount, primitiveOf}
+use Rattle.draw.specs.Triangles.{Triangle}
+use Rattle.draw.specs.Draw.{trianglesOf, drawIn, Drawing}
 use Rattle.draw.proofs.Drawing.{count-drawn}
 
 -- where the number of some tests is 0, the first of them passed: it has a nonzero number where it fails

@@ -12,10 +12,11 @@ use Rattle.vertex.specs.Scene.{Scene, Source, elements}
 use Rattle.vertex.specs.Index.{numbers, indexWidth, indexPart, indicesIn, indicesFrom}
 use Rattle.vertex.specs.Questions.{listNumber, validation}
 use Rattle.vertex.specs.declared.Vertex.{Vertex}
-use Rattle.draw.specs.Triangles.{triangleCount, Triangle, trianglesTo, wordsOf}
-use Rattle.draw.specs.Draw.{primitiveOf, vertexAt, trianglesOf, answered, drawIn, Draws}
+use Rattle.corners.specs.Places.{triangleCount, primitiveOf}
+use Rattle.draw.specs.Triangles.{Triangle, trianglesTo, wordsOf}
+use Rattle.draw.specs.Draw.{vertexAt, trianglesOf, answered, drawIn, Draws}
 use Rattle.draw.specs.declared.Drawn.{Drawn}
-use Rattle.draw.specs.declared.Primitive.{Primitive}
+use Rattle.corners.specs.declared.Primitive.{Primitive}
 use Rattle.draw.proofs.Laws.{count-triangles, words-stored}
 
 -- ---- the output

@@ -10,8 +10,9 @@ use lib.Seq.{sets, sets-eq}
 use lib.Ieee.{Float}
 use Rattle.vertex.specs.Vertex.{vertexWords}
 use Rattle.vertex.specs.declared.Vertex.{Vertex}
-use Rattle.draw.specs.Triangles.{triangleCount, Triangle, cornersOf, threeWords, trianglesTo, wordsOf}
-use Rattle.draw.specs.declared.Primitive.{Primitive}
+use Rattle.corners.specs.Places.{triangleCount, cornersOf}
+use Rattle.draw.specs.Triangles.{Triangle, threeWords, trianglesTo, wordsOf}
+use Rattle.corners.specs.declared.Primitive.{Primitive}
 
 -- ---- runs of stores
 module _ {A : Type 0} where
@@ -66,9 +67,3 @@ module _ (vertex : ℕ → Vertex) (p : Primitive) where
 
   pub length-triangles : (n : ℕ) → length (wordsOf (trianglesTo vertex p n)) ≡ 51 * n
   length-triangles n = length-words (trianglesTo vertex p n) ∙ rw (count-triangles n)
-
--- no more triangles than indices
-pub count-le : (p : Primitive) (n : ℕ) → triangleCount p n ≤ n
-count-le Primitive.Triangles n = omega arith
-count-le Primitive.Strip n = omega arith
-count-le Primitive.Fan n = omega arith

@@ -1,20 +1,15 @@
 -- For the code: the corners of a draw one after the other, those of all triangles numbered from 0. proofs/CornerLists.antt shows that the f32 are those of `wordsOf`.
-use mathlib.Core.Bool.{cond}
 use mathlib.Core.List.{List, [], _++_}
 use mathlib.Core.Path.{_≡_}
-use Prim.Native.Nat.{ℕ, zero, suc, _*_, _/_, _%_, _≤_}
-use lib.Dec.{eqb}
+use Prim.Native.Nat.{ℕ, zero, suc, _*_, _≤_}
 use lib.ListN.{length, getD, take}
 use lib.Ieee.{Float}
+use Rattle.corners.specs.Places.{cornerPlace}
+use Rattle.corners.specs.declared.Primitive.{Primitive}
 use Rattle.vertex.specs.Vertex.{vertexWords}
 use Rattle.vertex.specs.declared.Vertex.{Vertex}
-use Rattle.draw.specs.Triangles.{cornersOf}
-use Rattle.draw.specs.declared.Primitive.{Primitive}
 
--- the place in the index list of a corner
-abbrev pub cornerPlace : Primitive → ℕ → ℕ
-cornerPlace p c = cond (eqb (c % 3) 0) (cornersOf p (c / 3) .a) (cond (eqb (c % 3) 1) (cornersOf p (c / 3) .b) (cornersOf p (c / 3) .c))
-
+-- the index of a corner
 abbrev pub cornerIndex : Primitive → List ℕ → ℕ → ℕ
 cornerIndex p is c = getD is (cornerPlace p c) 0
 

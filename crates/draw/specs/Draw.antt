@@ -6,18 +6,14 @@ use Prim.Native.Nat.{ℕ, _*_}
 use lib.Dec.{ltb, eqb}
 use lib.ListN.{length, getD, drop}
 use lib.Ieee.{Float}
+use Rattle.corners.specs.Places.{primitiveOf, triangleCount}
 use Rattle.vertex.specs.Scene.{DrawState, Source, DrawCall, Scene, sceneOf}
 use Rattle.vertex.specs.Index.{indicesFrom}
 use Rattle.vertex.specs.Vertex.{vertexOf}
 use Rattle.vertex.specs.Questions.{validation}
 use Rattle.vertex.specs.declared.Vertex.{Vertex}
-use Rattle.draw.specs.Triangles.{triangleCount, Triangle, trianglesTo, wordsOf}
-use Rattle.draw.specs.declared.Primitive.{Primitive}
+use Rattle.draw.specs.Triangles.{Triangle, trianglesTo, wordsOf}
 use Rattle.draw.specs.declared.Drawn.{Drawn}
-
--- the primitive of mode 4, 5 or 6
-abbrev pub primitiveOf : ℕ → Primitive
-primitiveOf mode = cond (eqb mode 4) Primitive.Triangles (cond (eqb mode 5) Primitive.Strip Primitive.Fan)
 
 -- the vertex at a place of a list of indices
 abbrev pub vertexAt : Scene → List ℕ → ℕ → Vertex

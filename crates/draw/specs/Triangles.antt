@@ -1,25 +1,12 @@
--- Triangles (01: "Draws"): which places of the index list are the corners, and the f32 that are written.
-use mathlib.Core.Bool.{cond}
+-- Triangles (01: "Draws"): their vertices, and the f32 that are written.
 use mathlib.Core.List.{List, [], _∷_, _++_}
-use Prim.Native.Nat.{ℕ, zero, suc, _+_, _-_, _*_, _/_, _%_}
-use lib.Dec.{eqb}
+use Prim.Native.Nat.{ℕ, zero, suc}
 use lib.Ieee.{Float}
+use Rattle.corners.specs.Places.{cornersOf}
+use Rattle.corners.specs.declared.Corners.{Corners}
+use Rattle.corners.specs.declared.Primitive.{Primitive}
 use Rattle.vertex.specs.Vertex.{vertexWords}
 use Rattle.vertex.specs.declared.Vertex.{Vertex}
-use Rattle.draw.specs.declared.Corners.{Corners}
-use Rattle.draw.specs.declared.Primitive.{Primitive}
-
--- how many triangles n indices make
-abbrev pub triangleCount : Primitive → ℕ → ℕ
-triangleCount Primitive.Triangles n = n / 3
-triangleCount Primitive.Strip n = n - 2
-triangleCount Primitive.Fan n = n - 2
-
--- the corners of triangle t: a list has (0,1,2), (3,4,5), ..; a strip with i = t + 2 has (i-2,i-1,i) if i is even, else (i-1,i-2,i); a fan has (0,i-1,i)
-abbrev pub cornersOf : Primitive → ℕ → Corners
-cornersOf Primitive.Triangles t = record { a = 3 * t; b = 3 * t + 1; c = 3 * t + 2 }
-cornersOf Primitive.Strip t = cond (eqb (t % 2) 0) (record { a = t; b = t + 1; c = t + 2 }) (record { a = t + 1; b = t; c = t + 2 })
-cornersOf Primitive.Fan t = record { a = 0; b = t + 1; c = t + 2 }
 
 pub record Triangle : Type 0 where
   pub a : Vertex

@@ -1,4 +1,5 @@
-// Drawing below the calls: the corners of triangles, their vertices in the output, the three draws.
+// Drawing below the calls: the vertices of corners in the output, the three draws.
+use corners::Primitive;
 use vertex::Indices;
 use vertex::Plan;
 use vertex::Scene;
@@ -12,22 +13,9 @@ ghost use Rattle.vertex.specs.Index.{indexList};
 ghost use Rattle.vertex.specs.Vertex.{four, vertexWords};
 ghost use Rattle.vertex.specs.Plan.{sources, vertexIn};
 ghost use Rattle.vertex.specs.Questions.{listNumber};
-ghost use Rattle.draw.specs.Triangles.{triangleCount, cornersOf, trianglesTo, wordsOf};
-ghost use Rattle.draw.specs.Corners.{cornerPlace, cornerIndex, cornerWords, Stands};
-ghost use Rattle.draw.specs.Draw.{primitiveOf, vertexAt, trianglesOf, answered, drawIn, Draws};
-
-pub enum Primitive {
-    Triangles,
-    Strip,
-    Fan,
-}
-
-// The places of a triangle's corners in the index list.
-pub struct Corners {
-    pub a: usize,
-    pub b: usize,
-    pub c: usize,
-}
+ghost use Rattle.draw.specs.Triangles.{trianglesTo, wordsOf};
+ghost use Rattle.draw.specs.Corners.{cornerIndex, cornerWords, Stands};
+ghost use Rattle.draw.specs.Draw.{vertexAt, trianglesOf, answered, drawIn, Draws};
 
 fn put4(out: &mut [f32], at: usize, a: [f32; 4])
     requires { ⌜ at + 4 ≤ length (now out) ⌝ }
@@ -56,63 +44,12 @@ fn write_vertex(out: &mut [f32], at: usize, v: Vertex)
     out[at + 16] = v.fog;
 }
 
-fn corners_of(p: Primitive, t: usize) -> Corners
-    requires { ⌜ t < 0x4000_0000_0000_0000 ⌝ }
-    ensures { λ r. ⌜ r ≡ cornersOf p t ⌝ }
-{
-    match p {
-        Primitive::Triangles => Corners {
-            a: 3 * t,
-            b: 3 * t + 1,
-            c: 3 * t + 2,
-        },
-        Primitive::Strip => {
-            if t % 2 == 0 {
-                Corners {
-                    a: t,
-                    b: t + 1,
-                    c: t + 2,
-                }
-            } else {
-                Corners {
-                    a: t + 1,
-                    b: t,
-                    c: t + 2,
-                }
-            }
-        }
-        Primitive::Fan => Corners {
-            a: 0,
-            b: t + 1,
-            c: t + 2,
-        },
-    }
-}
-
-// The place in the index list of a corner, the corners of all triangles numbered from 0.
-fn corner_place(p: Primitive, c: usize) -> usize
-    requires { ⌜ c < 0x4000_0000_0000_0000 ⌝ }
-    ensures { λ r. ⌜ r ≡ cornerPlace p c ⌝ }
-{
-    if let Primitive::Triangles = p {
-        return c;
-    }
-    let k = corners_of(p, c / 3);
-    if c % 3 == 0 {
-        return k.a;
-    }
-    if c % 3 == 1 {
-        return k.b;
-    }
-    k.c
-}
-
 // The index of a corner.
 fn corner_index(p: Primitive, kind: Indices, list: &[u32], elements: &[u8], c: usize) -> u32
     requires { ⌜ c < 0x4000_0000_0000_0000 ⌝ }
     ensures { λ r. ⌜ r ≡ cornerIndex p (indexList kind (now (list .entry)) (now (elements .entry))) c ⌝ }
 {
-    vertex::index_at(kind, list, elements, corner_place(p, c))
+    vertex::index_at(kind, list, elements, corners::corner_place(p, c))
 }
 
 // The vertex whose 17 f32 stand in the output.
@@ -274,30 +211,6 @@ fn write_triangles<'a>(
     );
 }
 
-// How many triangles n indices make.
-fn triangle_count(p: Primitive, n: usize) -> usize
-    ensures { λ r. ⌜ r ≡ triangleCount p n ⌝ }
-{
-    match p {
-        Primitive::Triangles => n / 3,
-        Primitive::Strip => { if n < 2 { 0 } else { n - 2 } }
-        Primitive::Fan => { if n < 2 { 0 } else { n - 2 } }
-    }
-}
-
-// The primitive of mode 4, 5 or 6.
-fn primitive_of(mode: u32) -> Primitive
-    ensures { λ r. ⌜ r ≡ primitiveOf mode ⌝ }
-{
-    if mode == 4 {
-        return Primitive::Triangles;
-    }
-    if mode == 5 {
-        return Primitive::Strip;
-    }
-    Primitive::Fan
-}
-
 // A draw's number, and how many triangles it wrote.
 pub struct Drawn {
     pub number: u32,
@@ -323,9 +236,9 @@ fn draw_indices<'a>(
     if number != 0 {
         return Drawn { number, count: 0 };
     }
-    let p = primitive_of(mode);
+    let p = corners::primitive_of(mode);
     let n = vertex::index_count(kind, list, elements);
-    let count = triangle_count(p, n);
+    let count = corners::triangle_count(p, n);
     if out.len() / 51 < count {
         return Drawn {
             number: 11,

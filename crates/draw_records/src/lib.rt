@@ -21,7 +21,7 @@ fn draw_words(w: &[u32], len: usize) -> DrawWords
 {
     let mode = words::word_at(w, 0);
     let stages = words::word_at(w, 1);
-    let room = words::smaller(words::long_at(w, 2), len);
+    let room = number::smaller(words::long_at(w, 2), len);
     let base = words::word_at(w, 4);
     DrawWords {
         mode,
@@ -46,7 +46,7 @@ fn make_list_draw<'a>(
     let guest = words::part_at(bytes, w, 5);
     let indices = words::words_from(w, 9);
     let room = d.room;
-    gles::draw_elements(
+    gles_draws::draw_elements(
         c,
         store,
         d.base,
@@ -74,7 +74,7 @@ fn make_range_draw<'a>(
     let first = words::word_at(w, 9);
     let count = words::word_at(w, 10);
     let room = d.room;
-    gles::draw_arrays(
+    gles_draws::draw_arrays(
         c,
         store,
         d.base,
@@ -104,7 +104,7 @@ fn make_stored_draw<'a>(
     let ty = words::word_at(w, 10);
     let pointer = words::word_at(w, 11);
     let room = d.room;
-    gles::draw_elements_from_guest(
+    gles_draws::draw_elements_from_guest(
         c,
         store,
         d.base,

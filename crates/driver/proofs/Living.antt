@@ -11,7 +11,7 @@ use Rattle.buffers.specs.Bounded.{count}
 use Rattle.buffers.specs.Objects.{slotCount, nameAt, liveIn}
 use Rattle.buffers.specs.declared.Slot.{Slot}
 use Rattle.buffers.proofs.Bounds.{lt-or-ge}
-use Rattle.answers.specs.Live.{NextLive}
+use Rattle.buffers.specs.Live.{NextLive}
 use Rattle.driver.specs.Permitted.{anyLive}
 
 module _ (P : ℕ → Bool) where

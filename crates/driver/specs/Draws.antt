@@ -2,9 +2,8 @@
 use mathlib.Core.List.{List, [], _∷_}
 use Prim.Native.Nat.{ℕ, min}
 use lib.ListN.{drop}
-use Rattle.number.specs.Tables.{Row, _names_}
+use Rattle.number.specs.Tables.{Row, _names_, rowOr}
 use Rattle.words.specs.Words.{wordAt}
-use Rattle.records.specs.Encoding.{rowOr}
 use Rattle.vertex.specs.Scene.{Source, list, range, elements, DrawCall}
 use Rattle.context.specs.Contract.{drawCall}
 

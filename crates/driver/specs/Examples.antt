@@ -7,7 +7,8 @@ use Rattle.buffers.specs.Objects.{storeBytes}
 use Rattle.vertex.specs.Scene.{list, range, elements}
 use Rattle.vertex.specs.Index.{indexWidth}
 use Rattle.context.specs.Contract.{drawCall}
-use Rattle.text.specs.Text.{putHeld, overwrite}
+use Rattle.number.specs.Bytes.{overwrite}
+use Rattle.text.specs.Text.{putHeld}
 use Rattle.driver.specs.Settings.{borrowed, freshBorrowed, borrowedAfter, storeAfter, guestAfter}
 use Rattle.driver.specs.Permitted.{isCall, borrowsStore, isMade, canBeRead, isShort}
 use Rattle.driver.specs.Draws.{sourceOf, drawOf}

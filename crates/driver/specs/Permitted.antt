@@ -3,13 +3,12 @@ use mathlib.Core.Bool.{Bool, true, false, not, _&&_, _||_}
 use mathlib.Core.List.{List, [], _∷_}
 use Prim.Native.Nat.{ℕ, _+_, _-_, _*_}
 use lib.Dec.{eqb, ltb, leb}
-use Rattle.number.specs.Tables.{Row, _names_}
+use Rattle.number.specs.Tables.{Row, _names_, rowOr}
 use Rattle.buffers.specs.Objects.{storeBytes, liveIn}
 use Rattle.buffers.specs.declared.Slot.{Slot}
 use Rattle.vertex.specs.Index.{rangeCount, indexWidth}
 use Rattle.context.specs.declared.Context.{Context}
 use Rattle.words.specs.Words.{wordAt}
-use Rattle.records.specs.Encoding.{rowOr}
 use Rattle.trace.specs.Trace.{maxEntries}
 use Rattle.driver.specs.declared.Borrowed.{Borrowed}
 

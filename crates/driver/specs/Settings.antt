@@ -1,10 +1,9 @@
 -- The settings of a trace (TRACE.md: "Settings"): what the calls borrow, and what the store's area and the guest's hold.
 use mathlib.Core.List.{List, [], _∷_}
 use Prim.Native.Nat.{ℕ}
-use Rattle.number.specs.Tables.{Row, _names_}
+use Rattle.number.specs.Tables.{Row, _names_, rowOr}
 use Rattle.buffers.specs.Objects.{storeBytes}
 use Rattle.words.specs.Words.{wordAt, bytesAt}
-use Rattle.records.specs.Encoding.{rowOr}
 use Rattle.text.specs.Text.{Page, page, put}
 use Rattle.trace.specs.Trace.{storeArea}
 use Rattle.trace.specs.Fill.{filled, fillByte}

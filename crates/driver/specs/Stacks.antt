@@ -4,13 +4,12 @@ use mathlib.Core.List.{List, [], _∷_}
 use Prim.Native.Nat.{ℕ, _+_, _*_}
 use lib.Dec.{ltb, leb}
 use lib.ListN.{drop, getD, set}
-use Rattle.number.specs.Tables.{Row, _names_}
+use Rattle.number.specs.Tables.{Row, _names_, rowOr}
 use Rattle.words.specs.Words.{wordAt, matrixFloats}
 use Rattle.stack.specs.Stack.{MatrixCall, limit, answer, stackAnswer, none}
 use Rattle.stack.specs.declared.Matrix.{Matrix}
 use Rattle.stack.specs.declared.MatrixStack.{MatrixStack}
 use Rattle.stack.specs.declared.StackAnswer.{StackAnswer}
-use Rattle.records.specs.Encoding.{rowOr}
 use Rattle.trace.specs.Fill.{tabulate}
 
 -- ---- the stack of a STACK_SET record: slot, count, the current matrix, the saved ones, the oldest first. A word past the end is 0

@@ -1,8 +1,8 @@
 // What the records of a trace say: settings, which records may come in a state, stacks outside the context, calls and draws.
-use answers::next_live;
 use buffers::Buffers;
 use buffers::SLOT_COUNT;
 use buffers::STORE_BYTES;
+use buffers::next_live;
 use context::Context;
 use context::DrawReply;
 use records::CallReply;
@@ -14,7 +14,7 @@ use trace::MAX_ENTRIES;
 use trace::STORE_AREA;
 ghost use mathlib.Core.Path.{_≡_};
 ghost use lib.ListN.{length};
-ghost use Rattle.vertex.specs.Index.{rangeCount, indexWidth};
+ghost use Rattle.vertex.specs.Index.{rangeCount};
 ghost use Rattle.history.specs.Demand3.{DrawDid};
 ghost use Rattle.words.specs.Words.{wordAt};
 ghost use Rattle.records.specs.Perform.{Performs};
@@ -208,24 +208,11 @@ fn range_count(first: u32, count: u32) -> u32
     if count < most { count } else { most }
 }
 
-// The bytes of an index; 0 for an unknown type.
-fn index_width(ty: u32) -> u64
-    ensures { λ r. ⌜ r ≡ indexWidth ty ⌝ }
-{
-    if ty == 0x1401 {
-        return 1;
-    }
-    if ty == 0x1403 {
-        return 2;
-    }
-    0
-}
-
 // Whether so many indices can be read from guest memory.
 fn can_be_read(v: Borrowed, element: u32, count: u32, ty: u32, pointer: u32) -> bool
     ensures { λ r. ⌜ r ≡ canBeRead v element count ty pointer ⌝ }
 {
-    let width = index_width(ty);
+    let width = vertex::index_width(ty);
     if width == 0 {
         return false;
     }
@@ -315,7 +302,7 @@ pub fn call(
 pub fn room_of(w: &[u32], len: usize) -> usize
     ensures { λ r. ⌜ r ≡ roomOf (now (w .entry)) len ⌝ }
 {
-    words::smaller(words::word_at(w, 2) as usize, len)
+    number::smaller(words::word_at(w, 2) as usize, len)
 }
 
 fn draw_list<'a>(
@@ -331,7 +318,7 @@ fn draw_list<'a>(
     let mode = words::word_at(w, 0);
     let stages = words::word_at(w, 1);
     let indices = words::words_from(w, 4);
-    view_draws::draw_elements(c, store, base, guest, mode, indices, stages, out)
+    view::draw_elements_at(c, store, base, guest, mode, indices, stages, out)
 }
 
 fn draw_range<'a>(
@@ -348,7 +335,7 @@ fn draw_range<'a>(
     let stages = words::word_at(w, 1);
     let first = words::word_at(w, 3);
     let count = words::word_at(w, 4);
-    view_draws::draw_arrays(c, store, base, guest, mode, first, count, stages, out)
+    view::draw_arrays_at(c, store, base, guest, mode, first, count, stages, out)
 }
 
 fn draw_stored<'a>(
@@ -366,18 +353,7 @@ fn draw_stored<'a>(
     let count = words::word_at(w, 3);
     let ty = words::word_at(w, 4);
     let pointer = words::word_at(w, 5);
-    view_draws::draw_elements_from_guest(
-        c,
-        store,
-        base,
-        guest,
-        mode,
-        count,
-        ty,
-        pointer,
-        stages,
-        out,
-    )
+    view::draw_elements_from_guest_at(c, store, base, guest, mode, count, ty, pointer, stages, out)
 }
 
 // Makes the draw of a record. The output is as long as its words say.

@@ -117,9 +117,9 @@ fn say_buffers(b: Buffers, store: &[u8]) {
     let mut name: u32 = 0;
     let mut left: usize = SLOT_COUNT;
     while left > 0 {
-        let k = answers::next_live(b, name);
+        let k = buffers::next_live(b, name);
         say_buffer(b, store, k);
-        name = answers::slot_name(b, k);
+        name = buffers::slot_name(b, k);
         left -= 1;
         if name == 0 {
             break;

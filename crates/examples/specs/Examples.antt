@@ -17,8 +17,8 @@ use Rattle.fetch.specs.Fetch.{partOf, addressOf, fetched}
 use Rattle.fetch.specs.declared.ArrayPointer.{ArrayPointer}
 use Rattle.fetch.specs.declared.Fetched.{Fetched}
 use Rattle.vertex.specs.Index.{upFrom, rangeCount}
-use Rattle.draw.specs.Triangles.{triangleCount, cornersOf}
-use Rattle.draw.specs.declared.Primitive.{Primitive}
+use Rattle.corners.specs.Places.{triangleCount, cornersOf}
+use Rattle.corners.specs.declared.Primitive.{Primitive}
 
 -- the indices at the corners of a list's triangles
 abbrev pub cornersIn : List ℕ → Primitive → List ℕ → List (List ℕ)

@@ -60,24 +60,24 @@ fn view(base: u32, first: u32) {
 
 // The current pairs 1, 2 of unit 0, 2, 6 of unit 1 and 3, 7 of unit 2. A number below that of unit 0 is unit 0.
 fn current_pairs() -> Context {
-    let a = gles::set_multi_texcoord(shown::positions(), 0, 1.0, 2.0);
-    let b = gles::set_multi_texcoord(a.context, TEXTURE0 + 1, 2.0, 6.0);
-    let c = gles::set_multi_texcoord(b.context, TEXTURE0 + 2, 3.0, 7.0);
+    let a = gles_arrays::set_multi_texcoord(shown::positions(), 0, 1.0, 2.0);
+    let b = gles_arrays::set_multi_texcoord(a.context, TEXTURE0 + 1, 2.0, 6.0);
+    let c = gles_arrays::set_multi_texcoord(b.context, TEXTURE0 + 2, 3.0, 7.0);
     c.context
 }
 
 // A texture matrix that takes s, t to 2s + 1, 3t.
 fn texture_matrix() -> Context {
-    let a = gles::set_matrix_mode(current_pairs(), TEXTURE);
-    let b = gles::translate(a.context, 1.0, 0.0, 0.0);
-    let c = gles::scale(b.context, 2.0, 3.0, 1.0);
+    let a = gles_matrix::set_matrix_mode(current_pairs(), TEXTURE);
+    let b = gles_matrix::translate(a.context, 1.0, 0.0, 0.0);
+    let c = gles_matrix::scale(b.context, 2.0, 3.0, 1.0);
     c.context
 }
 
 // The matrix applies to the array of unit 0, to 0, 0 for a failed fetch too, and not to a current pair.
 fn texture(pointer: u32, stages: u32) {
-    let a = gles::set_texcoord_pointer(texture_matrix(), 2, BYTE, 0, pointer);
-    let b = gles::set_client_state(a.context, TEXTURE_COORD_ARRAY, true);
+    let a = gles_arrays::set_texcoord_pointer(texture_matrix(), 2, BYTE, 0, pointer);
+    let b = gles_arrays::set_client_state(a.context, TEXTURE_COORD_ARRAY, true);
     shown::show(b.context, stages, PAIRS);
 }
 
@@ -88,15 +88,15 @@ fn pairs(pointer: u32, stages: u32) {
 
 // The current red is 0.5. Two colours can be read, if the array that is enabled is theirs.
 fn colors(array: u32) {
-    let a = gles::set_color(shown::positions(), [0.5, 0.25, 0.0, 1.0]);
-    let b = gles::set_color_pointer(a.context, 4, UNSIGNED_BYTE, 0, AT_COLORS);
-    let c = gles::set_client_state(b.context, array, true);
+    let a = gles_arrays::set_color(shown::positions(), [0.5, 0.25, 0.0, 1.0]);
+    let b = gles_arrays::set_color_pointer(a.context, 4, UNSIGNED_BYTE, 0, AT_COLORS);
+    let c = gles_arrays::set_client_state(b.context, array, true);
     shown::show(c.context, 0, RED);
 }
 
 // The first of these positions has z = -0.0 afterwards.
 fn turned(word: usize) {
-    let a = gles::scale(
+    let a = gles_matrix::scale(
         shown::vertices(Context::new(), 4, BYTE, AT_FOURS),
         1.0,
         1.0,
@@ -107,16 +107,16 @@ fn turned(word: usize) {
 
 // Twice the x of a vertex moved by 1.
 fn projected() {
-    let a = gles::translate(shown::positions(), 1.0, 0.0, 0.0);
-    let b = gles::set_matrix_mode(a.context, PROJECTION);
-    let c = gles::scale(b.context, 2.0, 2.0, 2.0);
+    let a = gles_matrix::translate(shown::positions(), 1.0, 0.0, 0.0);
+    let b = gles_matrix::set_matrix_mode(a.context, PROJECTION);
+    let c = gles_matrix::scale(b.context, 2.0, 2.0, 2.0);
     shown::show(c.context, 0, X);
 }
 
 fn draw_short(out: &mut [f32; 50]) -> u32 {
     let store = [0u8; STORE_BYTES];
     let guest = GUEST;
-    let r = gles::draw_arrays(
+    let r = gles_draws::draw_arrays(
         shown::positions(),
         &store,
         BASE,

@@ -20,7 +20,7 @@ fn list(a: u32, b: u32, c: u32, d: u32) {
     let guest = GUEST;
     let mut out = [7.0; 204];
     let i = [a, b, c, d];
-    let r = gles::draw_elements(
+    let r = gles_draws::draw_elements(
         shown::positions(),
         &store,
         BASE,
@@ -43,7 +43,7 @@ fn show_indexed(
 ) {
     let guest = GUEST;
     let mut out = [7.0; 204];
-    let r = gles::draw_elements_from_guest(
+    let r = gles_draws::draw_elements_from_guest(
         c,
         store,
         BASE,
@@ -66,8 +66,8 @@ fn indexed(ty: u32, pointer: u32, mode: u32, count: u32) {
 
 // Buffer 1 bound and filled.
 fn fill(c: Context, store: &mut [u8; STORE_BYTES], target: u32, data: [u8; 6]) -> Context {
-    let a = gles::bind_buffer(c, target, 1);
-    let b = gles::buffer_data(a.context, store, target, 6, &data, 0);
+    let a = gles_buffers::bind_buffer(c, target, 1);
+    let b = gles_buffers::buffer_data(a.context, store, target, 6, &data, 0);
     b.context
 }
 
@@ -86,7 +86,7 @@ fn elements(pointer: u32) {
 // A vertex array in buffer 1, which is then deleted: the array keeps its name.
 fn deleted(store: &mut [u8; STORE_BYTES]) -> Context {
     let c = fill(Context::new(), store, ARRAY_BUFFER, [0, 0, 1, 0, 2, 0]);
-    let a = gles::delete_buffers(shown::vertices(c, 2, BYTE, 0), &[1]);
+    let a = gles_buffers::delete_buffers(shown::vertices(c, 2, BYTE, 0), &[1]);
     a.context
 }
 
@@ -107,10 +107,10 @@ fn revived(filled: bool) {
 
 // A name made at a refused target is live, and next is above it: it is bound where a new one finds no slot.
 fn names() {
-    let a = gles::bind_buffer(Context::new(), 0, 5);
-    let b = gles::gen_buffers(a.context, 15);
-    let c = gles::bind_buffer(b.context, ARRAY_BUFFER, 5);
-    let d = gles::bind_buffer(b.context, ARRAY_BUFFER, 99);
+    let a = gles_buffers::bind_buffer(Context::new(), 0, 5);
+    let b = gles_buffers::gen_buffers(a.context, 15);
+    let c = gles_buffers::bind_buffer(b.context, ARRAY_BUFFER, 5);
+    let d = gles_buffers::bind_buffer(b.context, ARRAY_BUFFER, 99);
     shown::say_answers(a.number, b.first as usize, c.number);
     shown::say_number(d.number as u64);
 }
@@ -118,8 +118,8 @@ fn names() {
 // The number of buffer_data.
 fn sized(size: usize) -> u32 {
     let mut store = [0u8; STORE_BYTES];
-    let a = gles::bind_buffer(Context::new(), ARRAY_BUFFER, 1);
-    let b = gles::buffer_data(a.context, &mut store, ARRAY_BUFFER, size, b"", 0);
+    let a = gles_buffers::bind_buffer(Context::new(), ARRAY_BUFFER, 1);
+    let b = gles_buffers::buffer_data(a.context, &mut store, ARRAY_BUFFER, size, b"", 0);
     b.number
 }
 

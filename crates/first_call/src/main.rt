@@ -26,10 +26,10 @@ fn main() {
     let store = [0u8; STORE_BYTES];
     let guest = GUEST;
     let mut out = [0.0; 51];
-    let a = gles::set_vertex_pointer(Context::new(), 2, BYTE, 0, AT);
-    let b = gles::set_client_state(a.context, VERTEX_ARRAY, true);
-    let c = gles::translate(b.context, 1.0, 0.0, 0.0);
-    let r = gles::draw_arrays(c.context, &store, AT, &guest, TRIANGLES, 0, 3, 0, &mut out);
+    let a = gles_arrays::set_vertex_pointer(Context::new(), 2, BYTE, 0, AT);
+    let b = gles_arrays::set_client_state(a.context, VERTEX_ARRAY, true);
+    let c = gles_matrix::translate(b.context, 1.0, 0.0, 0.0);
+    let r = gles_draws::draw_arrays(c.context, &store, AT, &guest, TRIANGLES, 0, 3, 0, &mut out);
     io::print_decimal(1, r.number as u64);
     io::write_all(1, b" ");
     io::print_decimal(1, r.count as u64);

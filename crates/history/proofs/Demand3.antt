@@ -10,10 +10,12 @@ use lib.Ieee.{Float}
 use Rattle.buffers.specs.Objects.{storeBytes}
 use Rattle.vertex.specs.Scene.{DrawState, DrawCall, Scene, sceneOf}
 use Rattle.vertex.specs.Index.{indexTotal}
-use Rattle.draw.specs.Triangles.{triangleCount, Triangle, wordsOf}
-use Rattle.draw.specs.Draw.{primitiveOf, Drawing, drawOf, Draws}
+use Rattle.corners.specs.Places.{triangleCount, primitiveOf}
+use Rattle.draw.specs.Triangles.{Triangle, wordsOf}
+use Rattle.draw.specs.Draw.{Drawing, drawOf, Draws}
 use Rattle.draw.specs.declared.Drawn.{Drawn}
-use Rattle.draw.proofs.Laws.{length-words, count-le}
+use Rattle.corners.proofs.Places.{count-le}
+use Rattle.draw.proofs.Laws.{length-words}
 use Rattle.draw.proofs.Counts.{refused-none, accepted-count}
 use Rattle.context.specs.declared.Context.{Context}
 use Rattle.context.specs.declared.DrawReply.{DrawReply}

@@ -1,7 +1,7 @@
 -- Demand 3 (01: "Strands and fold"), whole: what is claimed of a list of calls. proofs/Demand3.antt proves it.
 --   1. the five logs of a list of calls
 --   2. the replay of the logs from fresh
---   3. a list of calls, and what it leaves; Entries.antt shows that the functions of crate gles make such lists
+--   3. a list of calls, and what it leaves; crate entries shows that the functions of the crates gles_.. make such lists
 --   4. the claims
 use mathlib.Core.Bool.{cond}
 use mathlib.Core.List.{List, [], _∷_, _++_, foldl}

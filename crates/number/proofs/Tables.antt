@@ -1,12 +1,12 @@
 -- A `match` on a number against a table: what the table says where an arm's keys, or none of them, are the number. Assumes nothing.
-use mathlib.Core.Path.{_≡_, refl, sym, subst}
+use mathlib.Core.Path.{_≡_, refl, sym, ap, subst}
 use mathlib.Core.List.{List, [], _∷_}
-use mathlib.Core.Option.{none}
+use mathlib.Core.Option.{Option·getD, none}
 use mathlib.Core.Logic.{inl, inr, ⊎-elim}
 use Prim.Native.Nat.{ℕ}
 use borrow.Author.Tests.{ne-eqb}
 use types.Run.{OneOf}
-use Rattle.number.specs.Tables.{Row, _names_, lookup}
+use Rattle.number.specs.Tables.{Row, _names_, lookup, rowOr}
 
 -- what the last arm knows, where each arm before it has one row's number
 abbrev pub NoneOf : {A : Type 0} → Type 0 → List (Row A) → ℕ → Type 0
@@ -21,6 +21,10 @@ missed N ((code names a) ∷ rows) n h =
 
 pub misses : {A : Type 0} (rows : List (Row A)) (n : ℕ) → NoneOf (Unit {0}) rows n → lookup rows n ≡ none
 misses rows n h = missed (Unit {0}) rows n h .1
+
+-- no row has the code: the last one given is meant
+pub last-row : {A : Type 0} (rows : List (Row A)) (n : ℕ) (d : A) → NoneOf (Unit {0}) rows n → d ≡ rowOr rows n d
+last-row rows n d h = sym (ap (λ o. Option·getD o d) (misses rows n h))
 
 -- an arm with the numbers of several rows
 abbrev pub codes : {A : Type 0} → List (Row A) → List ℕ

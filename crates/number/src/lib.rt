@@ -1,7 +1,7 @@
 // Bytes and whole numbers to f32, and f32 to and from their bit patterns.
 ghost use mathlib.Core.Path.{_≡_};
 ghost use mathlib.Core.List.{[], _∷_};
-ghost use Prim.Native.Nat.{_<_};
+ghost use Prim.Native.Nat.{_<_, min};
 ghost use lib.IntN.{pos};
 ghost use lib.Ieee.{binary32, ofBits, toBits};
 ghost use Rattle.number.specs.F32.{nearest};
@@ -28,6 +28,13 @@ pub fn signed32(n: u32) -> i32
     } else {
         -1 - ((0x7fff_ffff - (n - 0x8000_0000)) as i32)
     }
+}
+
+// The smaller of two numbers.
+pub fn smaller(a: usize, b: usize) -> usize
+    ensures { λ r. ⌜ r ≡ min a b ⌝ }
+{
+    if a < b { a } else { b }
 }
 
 // The f32 equal to a number of 16 bits.

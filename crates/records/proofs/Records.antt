@@ -1,26 +1,19 @@
 -- From a record's code to its call. Assumes nothing.
 use mathlib.Core.List.{List, [], _∷_}
-use mathlib.Core.Option.{Option·getD}
 use mathlib.Core.Bool.{Bool, true, false}
-use mathlib.Core.Path.{_≡_, refl, sym, ap, subst}
+use mathlib.Core.Path.{_≡_, refl, sym, subst}
 use Prim.Native.Nat.{ℕ, max}
 use native.Mathlib.Omega.{arith}
 use borrow.Author.Tests.{leb-true, leb-false, eq-eqb, ne-eqb}
 use lib.Dec.{eqb, leb}
-use Rattle.number.specs.Tables.{Row, lookup}
-use Rattle.number.proofs.Tables.{NoneOf, misses}
 use Rattle.context.specs.declared.Context.{Context}
 use Rattle.context.specs.Calls.{Call}
 use Rattle.vertex.specs.Scene.{Source}
 use Rattle.context.specs.declared.DrawReply.{DrawReply}
 use lib.Ieee.{Float}
-use Rattle.records.specs.Encoding.{rowOr, drawOfWords}
+use Rattle.records.specs.Encoding.{drawOfWords}
 use Rattle.context.specs.Contract.{Does}
 use Rattle.records.specs.Perform.{DrewIn}
-
--- no row has the code: the last code of the group is meant
-pub last-row : {A : Type 0} (rows : List (Row A)) (n : ℕ) (d : A) → NoneOf (Unit {0}) rows n → d ≡ rowOr rows n d
-last-row rows n d h = sym (ap (λ o. Option·getD o d) (misses rows n h))
 
 pub does-is : {k k′ : Call} {c c1 : Context} {n : ℕ} → k ≡ k′ → Does k c n c1 → Does k′ c n c1
 does-is {c = c} {c1 = c1} {n = n} e d = subst (λ (j : Call). Does j c n c1) e d

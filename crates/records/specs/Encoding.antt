@@ -1,12 +1,12 @@
 -- Calls as records (specs of crate runner: lists of them). A record has a code and words. The bytes that a call borrows lie in an area of bytes, at the place that the words name.
 use mathlib.Core.Bool.{Bool, false, cond}
 use mathlib.Core.List.{List, [], _∷_}
-use mathlib.Core.Option.{Option, some, none, Option·getD}
+use mathlib.Core.Option.{Option, some, none}
 use Prim.Native.Nat.{ℕ, min, max}
 use lib.Dec.{eqb, ltb}
 use lib.ListN.{length, drop}
 use lib.Ieee.{Float}
-use Rattle.number.specs.Tables.{Row, _names_, lookup}
+use Rattle.number.specs.Tables.{Row, _names_, lookup, rowOr}
 use Rattle.words.specs.Words.{wordAt, longAt, switch, fourFloats, matrixFloats, bytesAt}
 use Rattle.matrix.specs.Matrix.{at}
 use Rattle.stack.specs.Stack.{loadIdentity, load, mult, translate, scale, rotate, frustum, ortho, MatrixUpdate, MatrixCall, update, push, pop}
@@ -18,9 +18,6 @@ use Rattle.context.specs.Calls.{BufferCall, gen, bind, delete, bufferData, buff
 use Rattle.context.specs.Contract.{drawCall}
 
 -- ---- the call of a record. A code that no row has counts as the last of its group: `recordSizes` says which codes there are
-
-abbrev pub rowOr : {A : Type 0} → List (Row A) → ℕ → A → A
-rowOr rows code last = Option·getD (lookup rows code) last
 
 -- f: the words as f32
 abbrev pub updateRows : List Float → List (Row MatrixUpdate)

@@ -25,14 +25,14 @@ pub fn make_update(c: Context, code: u32, f: [f32; 16]) -> Reply
     ensures { λ r. ⌜ Does (Call.matrix (MatrixCall.update (updateOf code f))) c (r .number) (r .context) ⌝ }
 {
     match code {
-        0x11 => gles::load_identity(c),
-        0x12 => gles::load_matrix(c, f),
-        0x13 => gles::mult_matrix(c, f),
-        0x16 => gles::translate(c, f[0], f[1], f[2]),
-        0x17 => gles::scale(c, f[0], f[1], f[2]),
-        0x18 => gles::rotate(c, f[0], f[1], f[2], f[3], f[4]),
-        0x1a => gles::frustum(c, f[0], f[1], f[2], f[3], f[4], f[5]),
-        _ => gles::ortho(c, f[0], f[1], f[2], f[3], f[4], f[5]),
+        0x11 => gles_matrix::load_identity(c),
+        0x12 => gles_matrix::load_matrix(c, f),
+        0x13 => gles_matrix::mult_matrix(c, f),
+        0x16 => gles_matrix::translate(c, f[0], f[1], f[2]),
+        0x17 => gles_matrix::scale(c, f[0], f[1], f[2]),
+        0x18 => gles_matrix::rotate(c, f[0], f[1], f[2], f[3], f[4]),
+        0x1a => gles_matrix::frustum(c, f[0], f[1], f[2], f[3], f[4], f[5]),
+        _ => gles_matrix::ortho(c, f[0], f[1], f[2], f[3], f[4], f[5]),
     }
 }
 
@@ -40,8 +40,8 @@ pub fn make_matrix(c: Context, code: u32, f: [f32; 16]) -> Reply
     ensures { λ r. ⌜ Does (Call.matrix (matrixOf code f)) c (r .number) (r .context) ⌝ }
 {
     match code {
-        0x14 => gles::push_matrix(c),
-        0x15 => gles::pop_matrix(c),
+        0x14 => gles_matrix::push_matrix(c),
+        0x15 => gles_matrix::pop_matrix(c),
         _ => make_update(c, code, f),
     }
 }
@@ -50,12 +50,12 @@ fn make_array(c: Context, code: u32, a: u32, b: u32, d: u32, e: u32) -> Reply
     ensures { λ r. ⌜ Does (Call.object (ObjectCall.array (arrayOf code a b d e))) c (r .number) (r .context) ⌝ }
 {
     match code {
-        0x30 => gles::set_vertex_pointer(c, a, b, d, e),
-        0x31 => gles::set_color_pointer(c, a, b, d, e),
-        0x32 => gles::set_normal_pointer(c, a, b, d),
-        0x33 => gles::set_texcoord_pointer(c, a, b, d, e),
-        0x34 => gles::set_client_state(c, a, b == 1),
-        _ => gles::set_client_active_texture(c, a),
+        0x30 => gles_arrays::set_vertex_pointer(c, a, b, d, e),
+        0x31 => gles_arrays::set_color_pointer(c, a, b, d, e),
+        0x32 => gles_arrays::set_normal_pointer(c, a, b, d),
+        0x33 => gles_arrays::set_texcoord_pointer(c, a, b, d, e),
+        0x34 => gles_arrays::set_client_state(c, a, b == 1),
+        _ => gles_arrays::set_client_active_texture(c, a),
     }
 }
 
@@ -63,8 +63,8 @@ fn make_attribute(c: Context, code: u32, a: u32, f: [f32; 4]) -> Reply
     ensures { λ r. ⌜ Does (Call.attribute (attributeOf code a f)) c (r .number) (r .context) ⌝ }
 {
     match code {
-        0x36 => gles::set_color(c, f),
-        _ => gles::set_multi_texcoord(c, a, f[1], f[2]),
+        0x36 => gles_arrays::set_color(c, f),
+        _ => gles_arrays::set_multi_texcoord(c, a, f[1], f[2]),
     }
 }
 
@@ -72,17 +72,17 @@ fn make_pipeline(c: Context, code: u32, a: u32, b: u32, f: [f32; 4]) -> Reply
     ensures { λ r. ⌜ Does (Call.pipeline (pipelineOf code a b f)) c (r .number) (r .context) ⌝ }
 {
     match code {
-        0x40 => gles::set_active_texture(c, a),
-        0x41 => gles::set_capability(c, a, b == 1),
-        0x42 => gles::tex_env(c, a, b),
-        0x43 => gles::set_tex_env_color(c, f),
-        0x44 => gles::set_depth_func(c, a),
-        0x45 => gles::set_alpha_func(c, a, f[1]),
-        0x46 => gles::set_blend_func(c, a, b),
-        0x47 => gles::set_cull_face(c, a),
-        0x48 => gles::set_front_face(c, a),
-        0x49 => gles::set_fog(c, a, f[1]),
-        _ => gles::set_depth_range(c, f[0], f[1]),
+        0x40 => gles_pipeline::set_active_texture(c, a),
+        0x41 => gles_pipeline::set_capability(c, a, b == 1),
+        0x42 => gles_pipeline::tex_env(c, a, b),
+        0x43 => gles_pipeline::set_tex_env_color(c, f),
+        0x44 => gles_pipeline::set_depth_func(c, a),
+        0x45 => gles_pipeline::set_alpha_func(c, a, f[1]),
+        0x46 => gles_pipeline::set_blend_func(c, a, b),
+        0x47 => gles_pipeline::set_cull_face(c, a),
+        0x48 => gles_pipeline::set_front_face(c, a),
+        0x49 => gles_pipeline::set_fog(c, a, f[1]),
+        _ => gles_pipeline::set_depth_range(c, f[0], f[1]),
     }
 }
 
@@ -133,7 +133,7 @@ pub fn replied(r: Reply) -> CallReply
 pub fn make_take_error(c: Context) -> CallReply
     ensures { λ r. ⌜ (r .known ≡ true) × Gives Call.takeError c (r .number) (r .value) (r .context) ⌝ }
 {
-    let e = gles::take_error(c);
+    let e = gles_pipeline::take_error(c);
     let number = e.number;
     let value = e.code as usize;
     let context = e.context;

@@ -23,7 +23,7 @@ fn perform(
         (some (callOf (now (bytes .entry)) (length (now (out .entry))) code (now (w .entry)))) ⌝ }
 {
     if code == 0x10 {
-        return records::replied(gles::set_matrix_mode(c, words::word_at(w, 0)));
+        return records::replied(gles_matrix::set_matrix_mode(c, words::word_at(w, 0)));
     }
     if code < 0x20 {
         return records::replied(records::make_matrix(c, code, words::matrix_floats(w)));
@@ -132,13 +132,13 @@ pub fn run_on(
         let code = words::word_at(words, place);
         let w = &words[start..end];
         if code == 0x14 {
-            let r = gles::push_matrix(c);
+            let r = gles_matrix::push_matrix(c);
             c = r.context;
         } else if code == 0x15 {
-            let r = gles::pop_matrix(c);
+            let r = gles_matrix::pop_matrix(c);
             c = r.context;
         } else if code == 0x10 {
-            let r = gles::set_matrix_mode(c, words::word_at(w, 0));
+            let r = gles_matrix::set_matrix_mode(c, words::word_at(w, 0));
             c = r.context;
         } else if code < 0x20 {
             let r = records::make_update(c, code, words::matrix_floats(w));

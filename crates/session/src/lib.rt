@@ -122,7 +122,7 @@ pub fn perform(
             );
         }
         if 0x10 <= code {
-            let end = words::smaller(v.store, store.len());
+            let end = number::smaller(v.store, store.len());
             return make_call(c, &mut store[..end], code, w, bytes, out);
         }
     }

@@ -119,7 +119,7 @@ pub fn say_answers(number: u32, count: usize, code: u32) {
 }
 
 pub fn show_draw(r: DrawReply, out: &[f32; 204], word: usize) {
-    let e = gles::take_error(r.context);
+    let e = gles_pipeline::take_error(r.context);
     say_answers(r.number, r.count, e.code);
     if 0 < r.count {
         say_triangles(out, r.count, word);
@@ -140,7 +140,7 @@ pub fn show_range(
 ) {
     let guest = GUEST;
     let mut out = [7.0; 204];
-    let r = gles::draw_arrays(c, store, base, &guest, mode, first, count, stages, &mut out);
+    let r = gles_draws::draw_arrays(c, store, base, &guest, mode, first, count, stages, &mut out);
     show_draw(r, &out, word);
 }
 
@@ -154,8 +154,8 @@ pub fn show(c: Context, stages: u32, word: usize) {
 pub fn vertices(c: Context, size: u32, ty: u32, pointer: u32) -> Context
     ensures { λ r. ⌜ HasVertices size ty pointer c r ⌝ }
 {
-    let a = gles::set_vertex_pointer(c, size, ty, 0, pointer);
-    let b = gles::set_client_state(a.context, VERTEX_ARRAY, true);
+    let a = gles_arrays::set_vertex_pointer(c, size, ty, 0, pointer);
+    let b = gles_arrays::set_client_state(a.context, VERTEX_ARRAY, true);
     b.context
 }
 

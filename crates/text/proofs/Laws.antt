@@ -8,14 +8,10 @@ use native.Mathlib.Omega.{arith}
 use borrow.Author.Tests.{lt-ltb, le-ltb, le-leb, lt-leb}
 use lib.Ieee.{Float, nan, inf, fin, binary32, isNan, toBits}
 use lib.ListN.{length, take, drop, getD}
-use lib.Seq.{paste, drop-cons, take-length, take-at}
+use lib.Seq.{drop-cons, take-at}
 use Rattle.io.specs.Digits.{glyph, digits, Fewest}
-use Rattle.text.specs.Text.{Page, page, put, putHeld, overwrite, decimalIn, decimal, hex, shownBits, putFloat}
-
--- a copy of the whole is the overwritten list
-pub paste-all : (old : List ℕ) (at : ℕ) (new : List ℕ) (n : ℕ) → n ≡ length new → paste old at new n ≡ overwrite old at new
-unfolding overwrite
-paste-all old at new n e = rw (e, take-length)
+use Rattle.number.specs.Bytes.{overwrite}
+use Rattle.text.specs.Text.{Page, page, put, putHeld, decimalIn, decimal, hex, shownBits, putFloat}
 
 pub glyph-low : (d : ℕ) → d < 10 → 48 + d ≡ glyph d
 glyph-low d h = rw (lt-ltb d 10 h)

@@ -2,7 +2,8 @@
 use mathlib.Core.Path.{_≡_, refl}
 use mathlib.Core.List.{[], _∷_}
 use lib.Ieee.{ofBits, isNan, binary32}
-use Rattle.text.specs.Text.{page, overwrite, putHeld, put, decimal, hex, shownBits, spaced}
+use Rattle.number.specs.Bytes.{overwrite}
+use Rattle.text.specs.Text.{page, putHeld, put, decimal, hex, shownBits, spaced}
 
 -- a text that fills the page to its end fits; one byte more does not
 pub fills : (put (page (1 ∷ 2 ∷ 3 ∷ []) 1) (65 ∷ 66 ∷ []) ≡ page (1 ∷ 65 ∷ 66 ∷ []) 3) × (put (page (1 ∷ 2 ∷ 3 ∷ []) 2) (65 ∷ 66 ∷ []) ≡ page (1 ∷ 2 ∷ 3 ∷ []) 2)

@@ -6,6 +6,7 @@ use lib.Dec.{ltb, leb}
 use lib.ListN.{length, take, drop}
 use lib.Ieee.{Float, binary32, isNan, toBits}
 use Rattle.io.specs.Digits.{glyph, digits}
+use Rattle.number.specs.Bytes.{overwrite}
 
 pub data Page : Type 0 where
   page : List ℕ → ℕ → Page
@@ -13,10 +14,6 @@ pub data Page : Type 0 where
 -- the place held within the bytes: one behind them counts as their end
 abbrev pub held : Page → Page
 held (page bytes place) = page bytes (min place (length bytes))
-
--- bytes with a text at a place in them
-unfoldable pub overwrite : List ℕ → ℕ → List ℕ → List ℕ
-overwrite bytes at text = take at bytes ++ text ++ drop (at + length text) bytes
 
 -- the text at a place within the bytes, and the place after it; nothing where it does not fit
 unfoldable pub putHeld : Page → List ℕ → Page

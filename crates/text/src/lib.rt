@@ -1,11 +1,11 @@
 // Text put into an area of bytes, piece by piece. Each function answers the place after the piece;
 // a piece that does not fit leaves the area as it is.
 ghost use mathlib.Core.Path.{_≡_};
-ghost use Prim.Native.Nat.{_+_, _%_, _≤_, min};
+ghost use Prim.Native.Nat.{_%_, min};
 ghost use lib.ListN.{length};
 ghost use Rattle.io.specs.Counts.{Counts};
 ghost use Rattle.io.specs.Digits.{glyph};
-ghost use Rattle.text.specs.Text.{page, overwrite, decimal, hex, shownBits, spaced, putFloat, putEach, putNumber};
+ghost use Rattle.text.specs.Text.{page, decimal, hex, shownBits, spaced, putFloat, putEach, putNumber};
 ghost use Rattle.text.specs.Text.{put as Text·put};
 
 // A place, or the area's end where it lies behind that.
@@ -13,18 +13,6 @@ fn start_of(area: &[u8], at: usize) -> usize
     ensures { λ r. ⌜ r ≡ min at (length (now (area .entry))) ⌝ }
 {
     if at < area.len() { at } else { area.len() }
-}
-
-// Writes a text for which there is room.
-fn write(area: &mut [u8], at: usize, text: &[u8])
-    requires { ⌜ at + length (now text) ≤ length (now area) ⌝ }
-    ensures { λ _. ⌜ now (area .exit) ≡ overwrite (now (area .entry)) at (now (text .entry)) ⌝ }
-{
-    let mut i = 0;
-    while i < text.len() {
-        area[at + i] = text[i];
-        i += 1;
-    }
 }
 
 // A text.
@@ -36,7 +24,7 @@ pub fn put(area: &mut [u8], at: usize, text: &[u8]) -> usize
     if area.len() - start < text.len() {
         return start;
     }
-    write(area, start, text);
+    bytes::copy(text, &mut area[start..]);
     start + text.len()
 }
 

@@ -77,7 +77,7 @@ fn has_size(code: u32, n: usize, h: [u32; 5]) -> bool
         0x60 => n == and_more(4, h[3]),
         0x61 => n == 5,
         0x62 => n == 6,
-        0x70 => n == 18 + 16 * words::smaller(h[1] as usize, 15),
+        0x70 => n == 18 + 16 * number::smaller(h[1] as usize, 15),
         0x71 => n == 1,
         0x72 => n == 1,
         0x73 => n == 1,
@@ -217,7 +217,7 @@ fn fill_byte(i: u32, seed: u32) -> u8
 pub fn fill(area: &mut [u8], n: u32, seed: u32)
     ensures { λ r. ⌜ now (area .exit) ≡ filled (fillByte seed) n (now (area .entry)) ⌝ }
 {
-    let end = words::smaller(n as usize, area.len()) as u32;
+    let end = number::smaller(n as usize, area.len()) as u32;
     let mut i: u32 = 0;
     while i < end {
         area[i as usize] = fill_byte(i, seed);
@@ -238,7 +238,7 @@ fn word_of(bytes: &[u8], i: usize) -> u32
 pub fn read_words(bytes: &[u8], w: &mut [u32])
     ensures { λ r. ⌜ now (w .exit) ≡ filled (wordOf (now (bytes .entry))) (length (now (bytes .entry)) / 4) (now (w .entry)) ⌝ }
 {
-    let end = words::smaller(bytes.len() / 4, w.len());
+    let end = number::smaller(bytes.len() / 4, w.len());
     let mut i: usize = 0;
     while i < end {
         w[i] = word_of(bytes, i);

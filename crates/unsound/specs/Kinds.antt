@@ -5,7 +5,7 @@ use mathlib.Core.Path.{_≡_}
 use Prim.Native.Nat.{ℕ, _+_, _<_, _≤_}
 use lib.Dec.{eqb, ltb}
 use lib.ListN.{set}
-use Rattle.number.specs.Tables.{Row, _names_}
+use Rattle.number.specs.Tables.{Row, _names_, rowOr}
 use Rattle.stack.specs.Stack.{limit}
 use Rattle.stack.specs.declared.MatrixStack.{MatrixStack}
 use Rattle.buffers.specs.Objects.{slotCount, slotBytes, nameAt, Live}
@@ -18,8 +18,7 @@ use Rattle.context.specs.declared.MatrixMode.{MatrixMode}
 use Rattle.context.specs.declared.Context.{Context}
 use Rattle.context.specs.State.{stackAt}
 use Rattle.context.specs.Contract.{putStack, putStacks, putBuffers, putArrays, putPipeline}
-use Rattle.records.specs.Encoding.{rowOr}
-use Rattle.answers.specs.Live.{NextLive}
+use Rattle.buffers.specs.Live.{NextLive}
 
 -- ---- stacks and units
 

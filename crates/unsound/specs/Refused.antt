@@ -9,14 +9,13 @@ use borrow.Author.Tests.{lt-ltb, eqb-true, eqb-false}
 use lib.Dec.{eqb}
 use lib.ListN.{length, getD, set}
 use lib.Seq.{getD-set-same, getD-set-other}
-use Rattle.number.specs.Tables.{Row, _names_}
-use Rattle.records.specs.Encoding.{rowOr}
+use Rattle.number.specs.Tables.{Row, _names_, rowOr}
 use Rattle.buffers.specs.Objects as buffer
 use Rattle.buffers.specs.Objects.{slotCount, slotBytes, nameAt, lenAt, freeSlot, Live, Bindable}
 use Rattle.buffers.specs.declared.Slot.{Slot}
 use Rattle.buffers.specs.declared.Buffers.{Buffers}
 use Rattle.buffers.proofs.Bounds.{lt-or-ge}
-use Rattle.answers.specs.Live.{NextLive}
+use Rattle.buffers.specs.Live.{NextLive}
 use Rattle.context.specs.declared.Context.{Context}
 use Rattle.context.specs.declared.MatrixMode.{MatrixMode}
 use Rattle.context.specs.State.{Sound}

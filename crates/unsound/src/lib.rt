@@ -1,9 +1,9 @@
 // Contexts that a record of a trace makes unsound, to see that every call refuses them.
-use answers::next_live;
-use answers::slot_name;
 use buffers::Buffers;
 use buffers::SLOT_COUNT;
 use buffers::Slot;
+use buffers::next_live;
+use buffers::slot_name;
 use context::Context;
 ghost use mathlib.Core.Path.{_≡_};
 ghost use Prim.Native.Nat.{max};

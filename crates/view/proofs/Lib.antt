@@ -4,3 +4,4 @@ pub mod Adapt
 pub mod Apart
 pub mod Draws
 pub mod Ranges
+pub mod Made

@@ -1,6 +1,6 @@
 // Reading arguments from words and bytes.
 ghost use mathlib.Core.Path.{_≡_};
-ghost use Prim.Native.Nat.{_+_, min};
+ghost use Prim.Native.Nat.{_+_};
 ghost use lib.ListN.{take, drop};
 ghost use Rattle.words.specs.Words.{wordAt, longAt, floatAt, fourFloats, matrixFloats, bytesAt};
 
@@ -59,18 +59,12 @@ pub fn matrix_floats(w: &[u32]) -> [f32; 16]
     ]
 }
 
-pub fn smaller(a: usize, b: usize) -> usize
-    ensures { λ r. ⌜ r ≡ min a b ⌝ }
-{
-    if a < b { a } else { b }
-}
-
 // n bytes from a place on, or as many as there are.
 pub fn bytes_at<'a>(bytes: &'a [u8], place: usize, n: usize) -> &'a [u8]
     ensures { λ r. ⌜ now r ≡ bytesAt (now (bytes .entry)) place n ⌝ }
 {
-    let start = smaller(place, bytes.len());
-    let end = start + smaller(n, bytes.len() - start);
+    let start = number::smaller(place, bytes.len());
+    let end = start + number::smaller(n, bytes.len() - start);
     &bytes[start..end]
 }
 
@@ -85,7 +79,7 @@ pub fn part_at<'a>(bytes: &'a [u8], w: &[u32], i: u16) -> &'a [u8]
 pub fn words_from<'a>(w: &'a [u32], n: usize) -> &'a [u32]
     ensures { λ r. ⌜ now r ≡ drop n (now (w .entry)) ⌝ }
 {
-    let start = smaller(n, w.len());
+    let start = number::smaller(n, w.len());
     &w[start..]
 }
 
@@ -93,6 +87,6 @@ pub fn words_from<'a>(w: &'a [u32], n: usize) -> &'a [u32]
 pub fn first_words<'a>(w: &'a [u32], n: usize) -> &'a [u32]
     ensures { λ r. ⌜ now r ≡ take n (now (w .entry)) ⌝ }
 {
-    let end = smaller(n, w.len());
+    let end = number::smaller(n, w.len());
     &w[..end]
 }

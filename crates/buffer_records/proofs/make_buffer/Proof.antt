@@ -1,6 +1,6 @@
 -- `buffer_records::make_buffer` meets its contract: each arm is its row.
 use borrow.Author.Needs.{needs}
-use Rattle.records.proofs.Records.{last-row}
+use Rattle.number.proofs.Tables.{last-row}
 use Rattle.buffer_records.proofs.Answers.{answers-is, replied-is}
 use mathlib.Core.Path.{refl, sym, ap, _∙_}
 use lib.Dec.{lit<}

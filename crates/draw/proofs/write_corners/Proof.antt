@@ -12,7 +12,7 @@ use Rattle.vertex.specs.Vertex.{vertexWords}
 use Rattle.vertex.specs.Plan.{Sources, sources, vertexIn}
 use Rattle.vertex.specs.declared.Plan.{Plan}
 use Rattle.draw.specs.Corners.{cornerIndex, cornerWords}
-use Rattle.draw.specs.declared.Primitive.{Primitive}
+use Rattle.corners.specs.declared.Primitive.{Primitive}
 use Rattle.vertex.specs.declared.Vertex.{Vertex}
 use Rattle.draw.proofs.Laws.{sets-then}
 use Rattle.draw.proofs.CornerLists.{length-corners, corners-more, stands-stored}

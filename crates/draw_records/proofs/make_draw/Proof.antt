@@ -1,5 +1,6 @@
 -- `draw_records::make_draw` meets its contract: each arm is its row.
-use Rattle.records.proofs.Records.{last-row, drew-is}
+use Rattle.number.proofs.Tables.{last-row}
+use Rattle.records.proofs.Records.{drew-is}
 use Rattle.records.specs.Encoding.{sourceRows, sourceOf}
 use borrow.Author.Needs.{needs}
 use Rattle.draw_records.proofs.make_draw.Statement.{statement}

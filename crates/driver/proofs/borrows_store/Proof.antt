@@ -1,6 +1,6 @@
 -- `driver::borrows_store` meets its contract: each arm is its row.
 use mathlib.Core.Bool.{false}
-use Rattle.records.proofs.Records.{last-row}
+use Rattle.number.proofs.Tables.{last-row}
 use Rattle.driver.specs.Permitted.{storeCalls, borrowsStore}
 use Rattle.driver.proofs.borrows_store.Statement.{statement}
 use Rattle.driver.proofs.borrows_store.Tie as tie

@@ -1,7 +1,7 @@
 -- `driver::draw` meets its contract: each arm is its row.
 use denote.Ref.{now}
 use mathlib.Core.Path.{refl}
-use Rattle.records.proofs.Records.{last-row}
+use Rattle.number.proofs.Tables.{last-row}
 use Rattle.driver.specs.Draws.{sourceRows, sourceOf}
 use Rattle.driver.proofs.Drawing.{did-as}
 use borrow.Author.Needs.{needs}

@@ -11,7 +11,7 @@ returns c =
     let word-at = c .before .before .before .before .before .before .word-at .ensures in
     let word-at2 = c .before .before .before .before .before .word-at2 .ensures in
     let words-from = c .before .before .before .before .words-from .ensures in
-    did-as (ap list words-from) word-at word-at2 (c .before .before .draw-elements .ensures)
+    did-as (ap list words-from) word-at word-at2 (c .before .before .draw-elements-at .ensures)
 
 pub draw-list-spec : {M : Type 1} → statement M
 draw-list-spec =

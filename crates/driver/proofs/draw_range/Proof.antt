@@ -11,7 +11,7 @@ returns c =
     let word-at2 = c .before .before .before .before .before .before .word-at2 .ensures in
     let word-at3 = c .before .before .before .before .before .word-at3 .ensures in
     let word-at4 = c .before .before .before .before .word-at4 .ensures in
-    did-as (λ i. range (word-at3 i) (word-at4 i)) word-at word-at2 (c .before .before .draw-arrays .ensures)
+    did-as (λ i. range (word-at3 i) (word-at4 i)) word-at word-at2 (c .before .before .draw-arrays-at .ensures)
 
 pub draw-range-spec : {M : Type 1} → statement M
 draw-range-spec =

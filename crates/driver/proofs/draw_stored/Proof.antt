@@ -12,7 +12,7 @@ returns c =
     let word-at3 = c .before .before .before .before .before .before .word-at3 .ensures in
     let word-at4 = c .before .before .before .before .before .word-at4 .ensures in
     let word-at5 = c .before .before .before .before .word-at5 .ensures in
-    did-as (λ i. elements (word-at3 i) (word-at4 i) (word-at5 i)) word-at word-at2 (c .before .before .draw-elements-from-guest .ensures)
+    did-as (λ i. elements (word-at3 i) (word-at4 i) (word-at5 i)) word-at word-at2 (c .before .before .draw-elements-from-guest-at .ensures)
 
 pub draw-stored-spec : {M : Type 1} → statement M
 draw-stored-spec =

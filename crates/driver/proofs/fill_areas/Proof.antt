@@ -1,7 +1,7 @@
 -- `driver::fill_areas` meets its contract: each arm is its row.
 use mathlib.Core.Path.{sym, ap}
 use denote.Ref.{now}
-use Rattle.records.proofs.Records.{last-row}
+use Rattle.number.proofs.Tables.{last-row}
 use Rattle.driver.specs.Settings.{bytesOf, storeRows, storeAfter, guestRows, guestAfter}
 use borrow.Author.Needs.{needs}
 use Rattle.driver.proofs.fill_areas.Statement.{statement}

@@ -1,6 +1,6 @@
 -- `driver::stack_answer` meets its contract: each arm is its row.
 use denote.Ref.{now}
-use Rattle.records.proofs.Records.{last-row}
+use Rattle.number.proofs.Tables.{last-row}
 use Rattle.driver.specs.Stacks.{recordRows, stackRecord}
 use borrow.Author.Needs.{needs}
 use Rattle.driver.proofs.stack_answer.Statement.{statement}

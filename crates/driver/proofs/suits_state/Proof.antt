@@ -2,7 +2,7 @@
 use mathlib.Core.Bool.{true}
 use mathlib.Core.Path.{sym}
 use denote.Ref.{now}
-use Rattle.records.proofs.Records.{last-row}
+use Rattle.number.proofs.Tables.{last-row}
 use Rattle.driver.specs.Permitted.{stateRows, suits}
 use borrow.Author.Needs.{needs}
 use Rattle.driver.proofs.suits_state.Statement.{statement}

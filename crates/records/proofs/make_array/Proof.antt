@@ -2,7 +2,8 @@
 use mathlib.Core.Path.{ap}
 use Rattle.context.specs.Calls.{object, array}
 use Rattle.records.specs.Encoding.{arrayOf, arrayRows}
-use Rattle.records.proofs.Records.{last-row, does-is}
+use Rattle.number.proofs.Tables.{last-row}
+use Rattle.records.proofs.Records.{does-is}
 use borrow.Author.Needs.{needs}
 use Rattle.records.proofs.make_array.Statement.{statement}
 use Rattle.records.proofs.make_array.Tie as tie

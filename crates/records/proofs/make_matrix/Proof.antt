@@ -3,7 +3,8 @@ use mathlib.Core.Path.{ap}
 use borrow.Author.Needs.{needs}
 use Rattle.context.specs.Calls.{matrix}
 use Rattle.records.specs.Encoding.{stackRows, matrixOf}
-use Rattle.records.proofs.Records.{last-row, does-is}
+use Rattle.number.proofs.Tables.{last-row}
+use Rattle.records.proofs.Records.{does-is}
 use Rattle.records.proofs.make_matrix.Statement.{statement}
 use Rattle.records.proofs.make_matrix.Tie as tie
 

@@ -2,7 +2,8 @@
 use mathlib.Core.Path.{ap}
 use Rattle.context.specs.Calls.{pipeline}
 use Rattle.records.specs.Encoding.{pipelineOf, pipelineRows}
-use Rattle.records.proofs.Records.{last-row, does-is}
+use Rattle.number.proofs.Tables.{last-row}
+use Rattle.records.proofs.Records.{does-is}
 use borrow.Author.Needs.{needs}
 use Rattle.records.proofs.make_pipeline.Statement.{statement}
 use Rattle.records.proofs.make_pipeline.Tie as tie

@@ -3,7 +3,8 @@ use mathlib.Core.Path.{ap}
 use Rattle.stack.specs.Stack.{MatrixUpdate, update}
 use Rattle.context.specs.Calls.{matrix}
 use Rattle.records.specs.Encoding.{updateRows, updateOf}
-use Rattle.records.proofs.Records.{last-row, does-is}
+use Rattle.number.proofs.Tables.{last-row}
+use Rattle.records.proofs.Records.{does-is}
 use borrow.Author.Needs.{needs}
 use Rattle.records.proofs.make_update.Statement.{statement}
 use Rattle.records.proofs.make_update.Tie as tie

@@ -1,11 +1,13 @@
 -- `text::put` meets its contract: the place lies within the bytes, and the text fits or not.
 use mathlib.Core.Path.{ap, _∙_}
 use mathlib.Core.List.{List}
-use Prim.Native.Nat.{ℕ, _+_}
+use Prim.Native.Nat.{ℕ, _+_, _-_}
 use native.Mathlib.Omega.{arith}
-use lib.ListN.{length}
+use lib.ListN.{length, drop, length-take, length-drop}
+use borrow.Rule.Slice.PartMut.{same-len-mid}
 use denote.Ref.{now}
 use Rattle.io.proofs.Counting.{counts}
+use Rattle.number.proofs.Lists.{copied}
 use Rattle.text.specs.Text.{page}
 use Rattle.text.proofs.Laws.{put-fits, put-full}
 use borrow.Author.Needs.{needs}
@@ -22,8 +24,15 @@ returns-2 : tie.Need-returns-2
 returns-2 c =
     let a = c .before .before .before .before .before .before .before .before .before .args in
     let s = c .before .before .before .before .before .start-of in
-    let fits = put-fits (now (a .area)) (a .at) (now (a .text)) (s .result) (s .ensures) (omega arith) in
-    (counts _ _ (omega arith), ap (λ (d : List ℕ). page d (s .result + length (now (a .text)))) (c .before .before .write .ensures) ∙ fits)
+    let e = copied (now (a .area)) (s .result) (now (a .text)) _ (omega arith) (c .before .before .copy .ensures .1) in
+    let same = same-len-mid (s .result) (length (now (a .area)) - s .result) (now (a .area)) (c .before .before .copy .last .1 .0) (c .before .before .copy .kept .1 .0) in
+    (counts _ _ (omega (arith, same)), ap (λ (d : List ℕ). page d (s .result + length (now (a .text)))) e ∙ put-fits (now (a .area)) (a .at) (now (a .text)) (s .result) (s .ensures) (omega arith))
+
+copy-requires : tie.Need-copy-requires
+copy-requires c κs =
+    let area = now (c .before .before .before .before .before .before .args .area) in
+    let start = c .before .before .start-of .result in
+    omega (arith, length-take (length area - start) (drop start area), length-drop start area)
 
 pub put-spec : {M : Type 1} → statement M
 put-spec =
@@ -33,7 +42,10 @@ put-spec =
     (λ c. search needs)
     (λ c. search needs)
     returns
-    (λ c κs. search needs)
+    (λ c. search needs)
+    (λ c. search needs)
+    (λ c. search needs)
+    copy-requires
     (λ c. search needs)
     (λ c. search needs)
     returns-2)

@@ -1,5 +1,5 @@
 -- `trace::byte_start` meets its contract: each arm is its row.
-use Rattle.records.proofs.Records.{last-row}
+use Rattle.number.proofs.Tables.{last-row}
 use Rattle.trace.specs.Trace.{byteStarts, byteStart}
 use Rattle.trace.proofs.byte_start.Statement.{statement}
 use Rattle.trace.proofs.byte_start.Tie as tie

@@ -1,5 +1,5 @@
 -- `trace::call_code` meets its contract.
-use Rattle.records.proofs.Records.{last-row}
+use Rattle.number.proofs.Tables.{last-row}
 use Rattle.trace.specs.Calls.{callCodes, callCode}
 use Rattle.trace.proofs.call_code.Statement.{statement}
 use Rattle.trace.proofs.call_code.Tie as tie

@@ -1,5 +1,5 @@
 -- `trace::call_words` meets its contract: each arm is its row.
-use Rattle.records.proofs.Records.{last-row}
+use Rattle.number.proofs.Tables.{last-row}
 use denote.Ref.{now}
 use Rattle.trace.specs.Calls.{callRows, callWords}
 use borrow.Author.Needs.{needs}

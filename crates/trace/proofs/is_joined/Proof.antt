@@ -1,7 +1,7 @@
 -- `trace::is_joined` meets its contract: each arm is its row.
 use borrow.Author.Tests.{eq-eqb, ne-eqb}
 use mathlib.Core.Bool.{true}
-use Rattle.records.proofs.Records.{last-row}
+use Rattle.number.proofs.Tables.{last-row}
 use Rattle.trace.specs.Trace.{joined, isJoined}
 use borrow.Author.Needs.{needs}
 use Rattle.trace.proofs.is_joined.Statement.{statement}

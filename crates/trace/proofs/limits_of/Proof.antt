@@ -1,5 +1,5 @@
 -- `trace::limits_of` meets its contract: each arm is its row.
-use Rattle.records.proofs.Records.{last-row}
+use Rattle.number.proofs.Tables.{last-row}
 use mathlib.Core.List.{[], _∷_}
 use Rattle.trace.specs.Trace.{any, limits, limitsOf}
 use Rattle.trace.proofs.limits_of.Statement.{statement}

@@ -1,5 +1,5 @@
 -- `unsound::unsound` meets its contract: each arm is its row.
-use Rattle.records.proofs.Records.{last-row}
+use Rattle.number.proofs.Tables.{last-row}
 use Rattle.unsound.specs.Kinds.{ContextMade, contextRows, contextMade}
 use borrow.Author.Needs.{needs}
 use Rattle.unsound.proofs.unsound.Statement.{statement}

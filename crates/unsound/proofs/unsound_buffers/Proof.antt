@@ -1,7 +1,7 @@
 -- `unsound::unsound_buffers` meets its contract: each arm is its row.
 use mathlib.Core.Path.{_≡_, refl, sym, ap, _∙_}
 use Rattle.buffers.specs.declared.Buffers.{Buffers}
-use Rattle.records.proofs.Records.{last-row}
+use Rattle.number.proofs.Tables.{last-row}
 use Rattle.unsound.specs.Kinds.{BuffersMade, bufferRows, buffersMade}
 use borrow.Author.Needs.{needs}
 use Rattle.unsound.proofs.unsound_buffers.Statement.{statement}

@@ -2,7 +2,7 @@
 use mathlib.Core.Path.{sym}
 use Rattle.words.specs.Words.{wordAt}
 use denote.Ref.{now}
-use Rattle.records.proofs.Records.{last-row}
+use Rattle.number.proofs.Tables.{last-row}
 use Rattle.driver.specs.Settings.{borrowedRows, borrowedAfter}
 use borrow.Author.Needs.{needs}
 use Rattle.driver.proofs.Borrowed.after.Statement.{statement}
