@@ -7,7 +7,7 @@ fn main() {
     pocket::main();
     println!("cargo:rerun-if-env-changed=BEONASUL_LIB");
     let folder = std::env::var("BEONASUL_LIB").unwrap_or("../target/staticlib".into());
-    println!("cargo:rerun-if-changed={folder}/libtimed.a");
+    println!("cargo:rerun-if-changed={folder}/liblist_timed.a");
     println!("cargo:rustc-link-search=native={folder}");
-    println!("cargo:rustc-link-lib=static=timed");
+    println!("cargo:rustc-link-lib=static=list_timed");
 }

@@ -3,13 +3,13 @@ use buffers::ARRAY_BUFFER;
 use buffers::ELEMENT_ARRAY_BUFFER;
 use buffers::STORE_BYTES;
 use context::Context;
-use shown::AT_INDICES;
-use shown::BASE;
-use shown::BYTE;
-use shown::GUEST;
-use shown::TRIANGLES;
-use shown::UNSIGNED_BYTE;
-use shown::X;
+use examples_shown::AT_INDICES;
+use examples_shown::BASE;
+use examples_shown::BYTE;
+use examples_shown::GUEST;
+use examples_shown::TRIANGLES;
+use examples_shown::UNSIGNED_BYTE;
+use examples_shown::X;
 
 // A type.
 const UNSIGNED_SHORT: u32 = 0x1403;
@@ -21,7 +21,7 @@ fn list(a: u32, b: u32, c: u32, d: u32) {
     let mut out = [7.0; 204];
     let i = [a, b, c, d];
     let r = gles_draws::draw_elements(
-        shown::positions(),
+        examples_shown::positions(),
         &store,
         BASE,
         &guest,
@@ -30,7 +30,7 @@ fn list(a: u32, b: u32, c: u32, d: u32) {
         0,
         &mut out,
     );
-    shown::show_draw(r, &out, X);
+    examples_shown::show_draw(r, &out, X);
 }
 
 fn show_indexed(
@@ -55,13 +55,20 @@ fn show_indexed(
         0,
         &mut out,
     );
-    shown::show_draw(r, &out, X);
+    examples_shown::show_draw(r, &out, X);
 }
 
 fn indexed(ty: u32, pointer: u32, mode: u32, count: u32) {
     let store = [0u8; STORE_BYTES];
-    shown::say_case(b"type, pointer, mode", ty, pointer, mode);
-    show_indexed(shown::positions(), &store, mode, count, ty, pointer);
+    examples_shown::say_case(b"type, pointer, mode", ty, pointer, mode);
+    show_indexed(
+        examples_shown::positions(),
+        &store,
+        mode,
+        count,
+        ty,
+        pointer,
+    );
 }
 
 // Buffer 1 bound and filled.
@@ -75,7 +82,7 @@ fn fill(c: Context, store: &mut [u8; STORE_BYTES], target: u32, data: [u8; 6]) -
 fn elements(pointer: u32) {
     let mut store = [0u8; STORE_BYTES];
     let c = fill(
-        shown::positions(),
+        examples_shown::positions(),
         &mut store,
         ELEMENT_ARRAY_BUFFER,
         [3, 0, 4, 0, 5, 0],
@@ -86,13 +93,13 @@ fn elements(pointer: u32) {
 // A vertex array in buffer 1, which is then deleted: the array keeps its name.
 fn deleted(store: &mut [u8; STORE_BYTES]) -> Context {
     let c = fill(Context::new(), store, ARRAY_BUFFER, [0, 0, 1, 0, 2, 0]);
-    let a = gles_buffers::delete_buffers(shown::vertices(c, 2, BYTE, 0), &[1]);
+    let a = gles_buffers::delete_buffers(examples_shown::vertices(c, 2, BYTE, 0), &[1]);
     a.context
 }
 
 // A draw of one triangle from buffers.
 fn show_stored(c: Context, store: &[u8; STORE_BYTES]) {
-    shown::show_range(c, store, BASE, TRIANGLES, 0, 3, 0, X);
+    examples_shown::show_range(c, store, BASE, TRIANGLES, 0, 3, 0, X);
 }
 
 // The array reads the buffer again once the name is bound and filled.
@@ -111,8 +118,8 @@ fn names() {
     let b = gles_buffers::gen_buffers(a.context, 15);
     let c = gles_buffers::bind_buffer(b.context, ARRAY_BUFFER, 5);
     let d = gles_buffers::bind_buffer(b.context, ARRAY_BUFFER, 99);
-    shown::say_answers(a.number, b.first as usize, c.number);
-    shown::say_number(d.number as u64);
+    examples_shown::say_answers(a.number, b.first as usize, c.number);
+    examples_shown::say_number(d.number as u64);
 }
 
 // The number of buffer_data.
@@ -124,9 +131,9 @@ fn sized(size: usize) -> u32 {
 }
 
 fn indices() {
-    shown::say(b"list 5, 3, 1, 0:");
+    examples_shown::say(b"list 5, 3, 1, 0:");
     list(5, 3, 1, 0);
-    shown::say(b"list 0, 1, 2, 99:");
+    examples_shown::say(b"list 0, 1, 2, 99:");
     list(0, 1, 2, 99);
     indexed(UNSIGNED_SHORT, BASE, 99, 0);
     indexed(UNSIGNED_SHORT, 0, 99, 0);
@@ -134,21 +141,21 @@ fn indices() {
     indexed(UNSIGNED_SHORT, 4141, TRIANGLES, 3);
     indexed(UNSIGNED_BYTE, AT_INDICES, TRIANGLES, 3);
     indexed(0x1405, AT_INDICES, TRIANGLES, 3);
-    shown::say(b"element buffer:");
+    examples_shown::say(b"element buffer:");
     elements(0);
-    shown::say(b"past the element buffer:");
+    examples_shown::say(b"past the element buffer:");
     elements(2);
 }
 
 fn buffers() {
-    shown::say(b"bind 5 at target 0, gen 15, bind 5, bind 99:");
+    examples_shown::say(b"bind 5 at target 0, gen 15, bind 5, bind 99:");
     names();
-    shown::say(b"\ndata of 4096 and 4097 bytes:");
-    shown::say_number(sized(4096) as u64);
-    shown::say_number(sized(4097) as u64);
-    shown::say(b"\nbuffer deleted:");
+    examples_shown::say(b"\ndata of 4096 and 4097 bytes:");
+    examples_shown::say_number(sized(4096) as u64);
+    examples_shown::say_number(sized(4097) as u64);
+    examples_shown::say(b"\nbuffer deleted:");
     revived(false);
-    shown::say(b"name bound and filled:");
+    examples_shown::say(b"name bound and filled:");
     revived(true);
 }
 

@@ -9,14 +9,14 @@ use Rattle.stack.specs.Stack.{freshStack}
 use Rattle.stack.specs.declared.MatrixStack.{MatrixStack}
 use Rattle.context.specs.declared.Context.{Context}
 use Rattle.context.specs.State.{Fresh}
-use Rattle.words.specs.Words.{wordAt}
-use Rattle.driver.specs.declared.Borrowed.{Borrowed}
-use Rattle.driver.specs.Settings.{freshBorrowed, borrowedAfter}
-use Rattle.driver.specs.Stacks.{stackSlots, stacksAfter}
-use Rattle.driver.specs.Permitted.{isPermitted}
-use Rattle.reader.specs.Kept.{ReadFrom}
-use Rattle.reader.specs.declared.Header.{Header}
-use Rattle.session.specs.Records.{Done}
+use Rattle.list_words.specs.Words.{wordAt}
+use Rattle.trace_driver.specs.declared.Borrowed.{Borrowed}
+use Rattle.trace_driver.specs.Settings.{freshBorrowed, borrowedAfter}
+use Rattle.trace_driver.specs.Stacks.{stackSlots, stacksAfter}
+use Rattle.trace_driver.specs.Permitted.{isPermitted}
+use Rattle.trace_reader.specs.Kept.{ReadFrom}
+use Rattle.trace_reader.specs.declared.Header.{Header}
+use Rattle.trace_session.specs.Records.{Done}
 
 -- a record that was read keeps the format, its words are those of the bytes, and it may come now
 pub record Comes (c : Context) (v : Borrowed) (h : Header) (bytes w w1 : List ℕ) : Type 0 where

@@ -1,12 +1,12 @@
 // Replays a trace: reads records from standard input, makes their calls and writes the answers to standard output.
 use context::Context;
-use driver::Borrowed;
-use reader::Header;
 use stack::MatrixStack;
-use trace::GUEST_AREA;
-use trace::MAX_OUTPUT;
-use trace::MAX_WORDS;
-use trace::STORE_AREA;
+use trace_driver::Borrowed;
+use trace_format::GUEST_AREA;
+use trace_format::MAX_OUTPUT;
+use trace_format::MAX_WORDS;
+use trace_format::STORE_AREA;
+use trace_reader::Header;
 ghost use mathlib.Core.Bool.{true};
 ghost use mathlib.Core.Path.{_≡_};
 ghost use Rattle.replay.specs.Replayed.{Comes, Replays};
@@ -15,14 +15,14 @@ ghost use Rattle.replay.specs.Replayed.{Comes, Replays};
 fn next_record(c: Context, v: Borrowed, record: u64, body: &mut [u8], w: &mut [u32]) -> Header
     ensures { λ r. ⌜ (r .going ≡ true → Comes c v r (now (body .exit)) (now (w .entry)) (now (w .exit))) ⌝ }
 {
-    let h = reader::read_record(record, body, w);
+    let h = trace_reader::read_record(record, body, w);
     if !h.going {
         return h;
     }
-    if driver::is_permitted(c, v, h.code, words::first_words(w, h.n)) {
+    if trace_driver::is_permitted(c, v, h.code, list_words::first_words(w, h.n)) {
         return h;
     }
-    answers::say_error(record, b"not in this state");
+    trace_answers::say_error(record, b"not in this state");
     Header {
         going: false,
         code: h.code,
@@ -44,8 +44,8 @@ fn run(store: &mut [u8], guest: &mut [u8], out: &mut [f32], body: &mut [u8], w: 
         if !h.going {
             break;
         }
-        let words = words::first_words(&w[..], h.n);
-        c = session::perform(
+        let words = list_words::first_words(&w[..], h.n);
+        c = trace_session::perform(
             c,
             v,
             h.code,
@@ -56,7 +56,7 @@ fn run(store: &mut [u8], guest: &mut [u8], out: &mut [f32], body: &mut [u8], w: 
             &mut out[..],
         );
         v = v.after(h.code, words);
-        let used = session::use_stacks(stacks, h.code, words);
+        let used = trace_session::use_stacks(stacks, h.code, words);
         stacks = used;
         record += 1;
     }

@@ -1,0 +1,13 @@
+-- `unsound::other_than` meets its contract.
+use borrow.Author.Tests.{eq-eqb, ne-eqb}
+use Rattle.trace_unsound.proofs.other_than.Statement.{statement}
+use Rattle.trace_unsound.proofs.other_than.Tie as tie
+
+returns : tie.Need-returns
+returns c = simp (eq-eqb _ _ (c .if1 .taken))
+
+returns-2 : tie.Need-returns-2
+returns-2 c = simp (ne-eqb _ _ (c .if1 .left))
+
+pub other-than-spec : {M : Type 1} → statement M
+other-than-spec = tie.close (tie.spec returns returns-2)
