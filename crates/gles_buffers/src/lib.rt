@@ -63,7 +63,8 @@ pub fn buffer_data(
     data: &[u8],
     usage: u32,
 ) -> Reply
-    ensures { λ r. ⌜ Did (Call.object (ObjectCall.buffer (BufferCall.bufferData target size (now («data» .entry)) usage))) c (now (store .entry)) (r .number) (r .context) (now (store .exit)) ⌝ }
+    ensures { λ r. ⌜ Did (Call.object (ObjectCall.buffer (BufferCall.bufferData target size (now («data» .entry)) usage)))
+        c (now (store .entry)) (r .number) (r .context) (now (store .exit)) ⌝ }
 {
     if !c.is_sound_apart() {
         return c.refuse();
@@ -73,7 +74,8 @@ pub fn buffer_data(
 }
 
 pub fn buffer_sub_data(c: Context, store: &mut [u8], target: u32, offset: u32, data: &[u8]) -> Reply
-    ensures { λ r. ⌜ Did (Call.object (ObjectCall.buffer (BufferCall.bufferSubData target offset (now («data» .entry))))) c (now (store .entry)) (r .number) (r .context) (now (store .exit)) ⌝ }
+    ensures { λ r. ⌜ Did (Call.object (ObjectCall.buffer (BufferCall.bufferSubData target offset (now («data» .entry)))))
+        c (now (store .entry)) (r .number) (r .context) (now (store .exit)) ⌝ }
 {
     if !c.is_sound_apart() {
         return c.refuse();

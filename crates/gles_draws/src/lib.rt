@@ -18,8 +18,10 @@ pub fn draw_elements<'a>(
     stages: u32,
     out: &mut [f32],
 ) -> DrawReply
-    ensures { λ r. ⌜ Did (Call.draw (drawCall (Source.list (now (indices .entry))) mode stages base (now (guest .entry)) (length (now (out .entry))))) c (now (store .entry)) (r .number) (r .context) (now (store .entry)) ⌝ }
-    ensures { λ r. ⌜ Drew (drawCall (Source.list (now (indices .entry))) mode stages base (now (guest .entry)) (length (now (out .entry)))) c (now (store .entry)) (drawnOf r) (now (out .entry)) (now (out .exit)) ⌝ }
+    ensures { λ r. ⌜ Did (Call.draw (drawCall (Source.list (now (indices .entry))) mode stages base (now (guest .entry)) (length (now (out .entry)))))
+        c (now (store .entry)) (r .number) (r .context) (now (store .entry)) ⌝ }
+    ensures { λ r. ⌜ Drew (drawCall (Source.list (now (indices .entry))) mode stages base (now (guest .entry)) (length (now (out .entry))))
+        c (now (store .entry)) (drawnOf r) (now (out .entry)) (now (out .exit)) ⌝ }
 {
     if !c.is_ready(store.len()) {
         return DrawReply {
@@ -44,8 +46,10 @@ pub fn draw_arrays<'a>(
     stages: u32,
     out: &mut [f32],
 ) -> DrawReply
-    ensures { λ r. ⌜ Did (Call.draw (drawCall (Source.range first count) mode stages base (now (guest .entry)) (length (now (out .entry))))) c (now (store .entry)) (r .number) (r .context) (now (store .entry)) ⌝ }
-    ensures { λ r. ⌜ Drew (drawCall (Source.range first count) mode stages base (now (guest .entry)) (length (now (out .entry)))) c (now (store .entry)) (drawnOf r) (now (out .entry)) (now (out .exit)) ⌝ }
+    ensures { λ r. ⌜ Did (Call.draw (drawCall (Source.range first count) mode stages base (now (guest .entry)) (length (now (out .entry)))))
+        c (now (store .entry)) (r .number) (r .context) (now (store .entry)) ⌝ }
+    ensures { λ r. ⌜ Drew (drawCall (Source.range first count) mode stages base (now (guest .entry)) (length (now (out .entry))))
+        c (now (store .entry)) (drawnOf r) (now (out .entry)) (now (out .exit)) ⌝ }
 {
     if !c.is_ready(store.len()) {
         return DrawReply {
@@ -71,8 +75,10 @@ pub fn draw_elements_from_guest<'a>(
     stages: u32,
     out: &mut [f32],
 ) -> DrawReply
-    ensures { λ r. ⌜ Did (Call.draw (drawCall (Source.elements count ty pointer) mode stages base (now (guest .entry)) (length (now (out .entry))))) c (now (store .entry)) (r .number) (r .context) (now (store .entry)) ⌝ }
-    ensures { λ r. ⌜ Drew (drawCall (Source.elements count ty pointer) mode stages base (now (guest .entry)) (length (now (out .entry)))) c (now (store .entry)) (drawnOf r) (now (out .entry)) (now (out .exit)) ⌝ }
+    ensures { λ r. ⌜ Did (Call.draw (drawCall (Source.elements count ty pointer) mode stages base (now (guest .entry)) (length (now (out .entry)))))
+        c (now (store .entry)) (r .number) (r .context) (now (store .entry)) ⌝ }
+    ensures { λ r. ⌜ Drew (drawCall (Source.elements count ty pointer) mode stages base (now (guest .entry)) (length (now (out .entry))))
+        c (now (store .entry)) (drawnOf r) (now (out .entry)) (now (out .exit)) ⌝ }
 {
     if !c.is_ready(store.len()) {
         return DrawReply {

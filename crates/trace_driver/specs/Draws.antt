@@ -1,4 +1,5 @@
--- The draws of a trace (TRACE.md: "Calls", opcodes 60 to 62): mode, mask of stages, output length; then a number of indices and the indices, or first and count, or count, type and pointer.
+-- The draws of a trace (TRACE.md: "Calls", opcodes 60 to 62): mode, mask of stages, output length;
+-- then a number of indices and the indices, or first and count, or count, type and pointer.
 use mathlib.Core.List.{List, [], _∷_}
 use Prim.Native.Nat.{ℕ, min}
 use lib.ListN.{drop}

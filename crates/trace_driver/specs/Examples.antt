@@ -43,11 +43,13 @@ pub ranges : (isShort true 5 16384 ≡ true) × (isShort true 5 16385 ≡ false)
 ranges = (refl, refl, refl, refl)
 
 -- five shorts lie in ten guest bytes, six do not; with an element buffer bound none is read there
-pub shorts : (canBeRead (borrowed 64 10 65536) 0 5 0x1403 64 ≡ true) × (canBeRead (borrowed 64 10 65536) 0 6 0x1403 64 ≡ false) × (canBeRead (borrowed 64 10 65536) 1 5 0x1403 64 ≡ false)
+pub shorts : (canBeRead (borrowed 64 10 65536) 0 5 0x1403 64 ≡ true) × (canBeRead (borrowed 64 10 65536) 0 6 0x1403 64 ≡ false)
+    × (canBeRead (borrowed 64 10 65536) 1 5 0x1403 64 ≡ false)
 unfolding canBeRead indexWidth
 shorts = (refl, refl, refl)
 
 -- with another store only calls that borrow it are made; settings and DUMP are no calls
-pub short-store : (isMade 1000 0x23 ≡ true) × (isMade 1000 0x61 ≡ true) × (isMade 1000 0x21 ≡ false) × (isMade 1000 0x72 ≡ false) × (isMade 1000 0x05 ≡ true) × (isMade 1000 0x7f ≡ true) × (isMade storeBytes 0x21 ≡ true)
+pub short-store : (isMade 1000 0x23 ≡ true) × (isMade 1000 0x61 ≡ true) × (isMade 1000 0x21 ≡ false) × (isMade 1000 0x72 ≡ false)
+    × (isMade 1000 0x05 ≡ true) × (isMade 1000 0x7f ≡ true) × (isMade storeBytes 0x21 ≡ true)
 unfolding isMade isCall borrowsStore
 short-store = (refl, refl, refl, refl, refl, refl, refl)

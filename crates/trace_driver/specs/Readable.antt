@@ -23,7 +23,8 @@ readable-is base guest address len = go (leb base address && leb ((address - bas
     go false = refl
 
 -- an index has a byte at least, so that a buffer of 4,096 bytes holds no more indices than the bound
-pub few-in-a-buffer : (held : List ℕ) (count width pointer : ℕ) → length held ≤ slotBytes → 1 ≤ width → isFound (inBuffer (some held) pointer (count * width)) ≡ true → count ≤ maxEntries
+pub few-in-a-buffer : (held : List ℕ) (count width pointer : ℕ) → length held ≤ slotBytes → 1 ≤ width
+    → isFound (inBuffer (some held) pointer (count * width)) ≡ true → count ≤ maxEntries
 few-in-a-buffer held count width pointer small one there = go (leb (pointer + count * width) (length held)) refl there
   where
     go : (b : Bool) → leb (pointer + count * width) (length held) ≡ b → isFound (cond b (bytes (take (count * width) (drop pointer held))) unreadable) ≡ true → count ≤ maxEntries

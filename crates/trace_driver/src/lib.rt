@@ -293,7 +293,8 @@ pub fn call(
     bytes: &[u8],
     out: &mut [f32],
 ) -> CallReply
-    ensures { λ r. ⌜ Performs c (now (store .entry)) (now (out .entry)) r (now (store .exit)) (now (out .exit)) (decoded (now (bytes .entry)) (length (now (out .entry))) code (now (w .entry))) ⌝ }
+    ensures { λ r. ⌜ Performs c (now (store .entry)) (now (out .entry)) r (now (store .exit)) (now (out .exit))
+        (decoded (now (bytes .entry)) (length (now (out .entry))) code (now (w .entry))) ⌝ }
 {
     let made = trace_format::made_words(code, w);
     let words = trace_format::call_words(code, w, &made);
@@ -317,7 +318,8 @@ fn draw_list<'a>(
     guest: &'a [u8],
     out: &mut [f32],
 ) -> DrawReply
-    ensures { λ r. ⌜ DrawDid (drawFrom (listOf (now (w .entry))) (now (w .entry)) base (now (guest .entry)) (length (now (out .entry)))) c (now (store .entry)) r (now (out .entry)) (now (out .exit)) ⌝ }
+    ensures { λ r. ⌜ DrawDid (drawFrom (listOf (now (w .entry))) (now (w .entry)) base (now (guest .entry)) (length (now (out .entry))))
+        c (now (store .entry)) r (now (out .entry)) (now (out .exit)) ⌝ }
 {
     let mode = list_words::word_at(w, 0);
     let stages = list_words::word_at(w, 1);
@@ -333,7 +335,8 @@ fn draw_range<'a>(
     guest: &'a [u8],
     out: &mut [f32],
 ) -> DrawReply
-    ensures { λ r. ⌜ DrawDid (drawFrom (rangeOf (now (w .entry))) (now (w .entry)) base (now (guest .entry)) (length (now (out .entry)))) c (now (store .entry)) r (now (out .entry)) (now (out .exit)) ⌝ }
+    ensures { λ r. ⌜ DrawDid (drawFrom (rangeOf (now (w .entry))) (now (w .entry)) base (now (guest .entry)) (length (now (out .entry))))
+        c (now (store .entry)) r (now (out .entry)) (now (out .exit)) ⌝ }
 {
     let mode = list_words::word_at(w, 0);
     let stages = list_words::word_at(w, 1);
@@ -350,7 +353,8 @@ fn draw_stored<'a>(
     guest: &'a [u8],
     out: &mut [f32],
 ) -> DrawReply
-    ensures { λ r. ⌜ DrawDid (drawFrom (elementsOf (now (w .entry))) (now (w .entry)) base (now (guest .entry)) (length (now (out .entry)))) c (now (store .entry)) r (now (out .entry)) (now (out .exit)) ⌝ }
+    ensures { λ r. ⌜ DrawDid (drawFrom (elementsOf (now (w .entry))) (now (w .entry)) base (now (guest .entry)) (length (now (out .entry))))
+        c (now (store .entry)) r (now (out .entry)) (now (out .exit)) ⌝ }
 {
     let mode = list_words::word_at(w, 0);
     let stages = list_words::word_at(w, 1);

@@ -1,4 +1,5 @@
--- A view, and its base and its bytes: what the one owns the others own, and neither leaves anything to say at exit. Over any parameters that stand after it, and then with two before it.
+-- A view, and its base and its bytes: what the one owns the others own, and neither leaves anything to say at exit.
+-- Over any parameters that stand after it, and then with two before it.
 --     viewed, parted           the parameters with the view, and with its base and its bytes in its place
 --     part-own, view-own       what the parameters with the view own, those with the base and the bytes own; and back
 --     part-lasts, view-lasts   what is said of last values, likewise
@@ -74,7 +75,8 @@ module _ {n : ℕ} (α : Lfts n → NamedLft) (ss : List (Slot n)) (ks : Kepts s
     pub part-own : (uss : Valss (typesAt ss κs)) → ent 𝓤 (sem 𝓤 H A (viewedOwn uss)) (sem 𝓤 H A (partedOwn uss))
     part-own uss =
         qed W (‵ (viewedOwn uss) ∷ []) ∵ fsplit ! $
-        use1 W (given (viewVals d ≡ viewVals d) (‵ (all-own (D .parts) L fields))) (own-open 𝓤 H A W D L fields (T′.lowered d)) $ learn ! (λ _. fsplit ! $ move ! (1 ∷ []) $ fsplit ! $
+        use1 W (given (viewVals d ≡ viewVals d) (‵ (all-own (D .parts) L fields))) (own-open 𝓤 H A W D L fields (T′.lowered d)) $
+        learn ! (λ _. fsplit ! $ move ! (1 ∷ []) $ fsplit ! $
         -- [the bytes; nothing; the base; what is after]
         move ! (1 ∷ []) $ drop ! $ move ! (0 ∷ 2 ∷ []) $ fjoin ! $ move ! (1 ∷ 0 ∷ []) $ done !)
 
@@ -135,11 +137,15 @@ module _ {n : ℕ} (α : Lfts n → NamedLft) (s₁ s₂ : Slot n) (ss : List (S
         ownParted = owns (typesAt allParted κs) (x₁, (x₂, (d .base, (d .bytes, xs)))) (us₁, (us₂, (vint w32 (d .base) ∷ [], (bytesVals d, uss))))
 
         pub parted-own : ent 𝓤 (sem 𝓤 H A ownViewed) (sem 𝓤 H A ownParted)
-        parted-own = qed W (‵ ownViewed ∷ []) ∵ fsplit ! $ move ! (1 ∷ []) $ fsplit ! $ move ! (1 ∷ []) $ use1 W (‵ (partedOwn α ss ks 𝓤 H A W κs d xs uss)) (part-own α ss ks 𝓤 H A W κs d xs uss) $
+        parted-own =
+            qed W (‵ ownViewed ∷ []) ∵ fsplit ! $ move ! (1 ∷ []) $ fsplit ! $ move ! (1 ∷ []) $
+            use1 W (‵ (partedOwn α ss ks 𝓤 H A W κs d xs uss)) (part-own α ss ks 𝓤 H A W κs d xs uss) $
             move ! (1 ∷ 0 ∷ []) $ fjoin ! $ move ! (1 ∷ 0 ∷ []) $ done !
 
         pub viewed-own : ent 𝓤 (sem 𝓤 H A ownParted) (sem 𝓤 H A ownViewed)
-        viewed-own = qed W (‵ ownParted ∷ []) ∵ fsplit ! $ move ! (1 ∷ []) $ fsplit ! $ move ! (1 ∷ []) $ use1 W (‵ (viewedOwn α ss ks 𝓤 H A W κs d xs uss)) (view-own α ss ks 𝓤 H A W κs d xs uss) $
+        viewed-own =
+            qed W (‵ ownParted ∷ []) ∵ fsplit ! $ move ! (1 ∷ []) $ fsplit ! $ move ! (1 ∷ []) $
+            use1 W (‵ (viewedOwn α ss ks 𝓤 H A W κs d xs uss)) (view-own α ss ks 𝓤 H A W κs d xs uss) $
             move ! (1 ∷ 0 ∷ []) $ fjoin ! $ move ! (1 ∷ 0 ∷ []) $ done !
 
       module _ (w₁ : Last (s₁ .row κs .exit yes) x₁) (w₂ : Last (s₂ .row κs .exit yes) x₂) (ws : Fins κs ss ks xs) (P Q : SProp 𝓤) (h : ent 𝓤 P Q) where
@@ -150,25 +156,35 @@ module _ {n : ℕ} (α : Lfts n → NamedLft) (s₁ s₂ : Slot n) (ss : List (S
         lastsParted = lastsOf κs allParted allPartedKept (x₁, (x₂, (d .base, (d .bytes, xs)))) (w₁, (w₂, (tt, (tt, ws))))
 
         viewed-lasts : ent 𝓤 (sep 𝓤 (sem 𝓤 H A lastsParted) P) (sep 𝓤 (sem 𝓤 H A lastsViewed) Q)
-        viewed-lasts = qed W (‵ lastsParted ∷ raw P ∷ []) ∵ fsplit ! $ move ! (1 ∷ []) $ fsplit ! $ move ! (1 ∷ []) $ use1 W (‵ (viewedLasts α ss ks 𝓤 H A W κs d xs ws)) (view-lasts α ss ks 𝓤 H A W κs d xs ws) $
+        viewed-lasts =
+            qed W (‵ lastsParted ∷ raw P ∷ []) ∵ fsplit ! $ move ! (1 ∷ []) $ fsplit ! $ move ! (1 ∷ []) $
+            use1 W (‵ (viewedLasts α ss ks 𝓤 H A W κs d xs ws)) (view-lasts α ss ks 𝓤 H A W κs d xs ws) $
             move ! (1 ∷ 0 ∷ []) $ fjoin ! $ move ! (1 ∷ 0 ∷ []) $ fjoin ! $ move ! (1 ∷ 0 ∷ []) $ use1 W (raw Q) h $ move ! (1 ∷ 0 ∷ []) $ done !
 
         parted-lasts : ent 𝓤 (sep 𝓤 (sem 𝓤 H A lastsViewed) P) (sep 𝓤 (sem 𝓤 H A lastsParted) Q)
-        parted-lasts = qed W (‵ lastsViewed ∷ raw P ∷ []) ∵ fsplit ! $ move ! (1 ∷ []) $ fsplit ! $ move ! (1 ∷ []) $ use1 W (‵ (partedLasts α ss ks 𝓤 H A W κs d xs ws)) (part-lasts α ss ks 𝓤 H A W κs d xs ws) $
+        parted-lasts =
+            qed W (‵ lastsViewed ∷ raw P ∷ []) ∵ fsplit ! $ move ! (1 ∷ []) $ fsplit ! $ move ! (1 ∷ []) $
+            use1 W (‵ (partedLasts α ss ks 𝓤 H A W κs d xs ws)) (part-lasts α ss ks 𝓤 H A W κs d xs ws) $
             move ! (1 ∷ 0 ∷ []) $ fjoin ! $ move ! (1 ∷ 0 ∷ []) $ fjoin ! $ move ! (1 ∷ 0 ∷ []) $ use1 W (raw Q) h $ move ! (1 ∷ 0 ∷ []) $ done !
 
     -- where what the one promises is what the other promises of the view's base and bytes
     module _ (result : Slot n) (P : Promise 𝓤 allViewed result allViewedKept) (P′ : Promise 𝓤 allParted result allPartedKept) (r : result .row κs .Denot) where
-      pub viewed-ensures : (a : Denots (typesAt allViewed κs)) → ((e : Outs κs allViewed allViewedKept) → ent 𝓤 (P′ κs (apart κs a) r (apartSeen κs e)) (P κs a r e))
+      pub viewed-ensures : (a : Denots (typesAt allViewed κs))
+          → ((e : Outs κs allViewed allViewedKept) → ent 𝓤 (P′ κs (apart κs a) r (apartSeen κs e)) (P κs a r e))
           → ent 𝓤 (ensures 𝓤 H A allParted result allPartedKept P′ κs (apart κs a) r) (ensures 𝓤 H A allViewed result allViewedKept P κs a r)
       viewed-ensures a same = exE 𝓤 _ (λ ws.
-          let e : Outs κs allViewed allViewedKept = outs κs allViewed allViewedKept a (ws .0, (ws .1 .0, (tt, ws .1 .1 .1 .1))) in
-          via 𝓤 _ (viewed-lasts (a .0) (a .1 .0) (a .1 .1 .0) (a .1 .1 .1) (ws .0) (ws .1 .0) (ws .1 .1 .1 .1) (P′ κs (apart κs a) r (apartSeen κs e)) (P κs a r e) (same e))
-          (exI 𝓤 (λ (zs : Fins κs allViewed allViewedKept a). sep 𝓤 (sem 𝓤 H A (lastsOf κs allViewed allViewedKept a zs)) (P κs a r (outs κs allViewed allViewedKept a zs))) (ws .0, (ws .1 .0, (tt, ws .1 .1 .1 .1)))))
+          let last : Fins κs allViewed allViewedKept a = (ws .0, (ws .1 .0, (tt, ws .1 .1 .1 .1))) in
+          let e : Outs κs allViewed allViewedKept = outs κs allViewed allViewedKept a last in
+          via 𝓤 _ (viewed-lasts (a .0) (a .1 .0) (a .1 .1 .0) (a .1 .1 .1) (ws .0) (ws .1 .0) (ws .1 .1 .1 .1)
+          (P′ κs (apart κs a) r (apartSeen κs e)) (P κs a r e) (same e))
+          (exI 𝓤 (λ (zs : Fins κs allViewed allViewedKept a). sep 𝓤 (sem 𝓤 H A (lastsOf κs allViewed allViewedKept a zs)) (P κs a r (outs κs allViewed allViewedKept a zs))) last))
 
-      pub parted-ensures : (b : Denots (typesAt allParted κs)) → ((e : Outs κs allParted allPartedKept) → ent 𝓤 (P κs (together κs b) r (togetherSeen κs e)) (P′ κs b r e))
+      pub parted-ensures : (b : Denots (typesAt allParted κs))
+          → ((e : Outs κs allParted allPartedKept) → ent 𝓤 (P κs (together κs b) r (togetherSeen κs e)) (P′ κs b r e))
           → ent 𝓤 (ensures 𝓤 H A allViewed result allViewedKept P κs (together κs b) r) (ensures 𝓤 H A allParted result allPartedKept P′ κs b r)
       parted-ensures b same = exE 𝓤 _ (λ ws.
-          let e : Outs κs allParted allPartedKept = outs κs allParted allPartedKept b (ws .0, (ws .1 .0, (tt, (tt, ws .1 .1 .1)))) in
-          via 𝓤 _ (parted-lasts (b .0) (b .1 .0) (together κs b .1 .1 .0) (b .1 .1 .1 .1) (ws .0) (ws .1 .0) (ws .1 .1 .1) (P κs (together κs b) r (togetherSeen κs e)) (P′ κs b r e) (same e))
-          (exI 𝓤 (λ (zs : Fins κs allParted allPartedKept b). sep 𝓤 (sem 𝓤 H A (lastsOf κs allParted allPartedKept b zs)) (P′ κs b r (outs κs allParted allPartedKept b zs))) (ws .0, (ws .1 .0, (tt, (tt, ws .1 .1 .1))))))
+          let last : Fins κs allParted allPartedKept b = (ws .0, (ws .1 .0, (tt, (tt, ws .1 .1 .1)))) in
+          let e : Outs κs allParted allPartedKept = outs κs allParted allPartedKept b last in
+          via 𝓤 _ (parted-lasts (b .0) (b .1 .0) (together κs b .1 .1 .0) (b .1 .1 .1 .1) (ws .0) (ws .1 .0) (ws .1 .1 .1)
+          (P κs (together κs b) r (togetherSeen κs e)) (P′ κs b r e) (same e))
+          (exI 𝓤 (λ (zs : Fins κs allParted allPartedKept b). sep 𝓤 (sem 𝓤 H A (lastsOf κs allParted allPartedKept b zs)) (P′ κs b r (outs κs allParted allPartedKept b zs))) last))

@@ -57,18 +57,23 @@ taken κs a = (a .0 .base, (a .0 .bytes, a .1))
 abbrev pub takenSeen : (κs : Lfts 1) → Outs κs viewedParams viewedExit → Outs κs partedParams partedExit
 takenSeen κs e = (e .0 .base, (e .0 .bytes, e .1))
 
-module _ {M : Type 1} (𝓤 : URA M) (H : Heap 𝓤) (A : Atoms 𝓤) (W : Given 𝓤 H A) (result : Slot 1) (τ : Ty) (typed : (κs : Lfts 1) (r : result .row κs .Denot) (u : Val) → Is (result .row κs) r (u ∷ []) → Typed τ u)
+module _ {M : Type 1} (𝓤 : URA M) (H : Heap 𝓤) (A : Atoms 𝓤) (W : Given 𝓤 H A) (result : Slot 1) (τ : Ty)
+    (typed : (κs : Lfts 1) (r : result .row κs .Denot) (u : Val) → Is (result .row κs) r (u ∷ []) → Typed τ u)
     (P : Promise 𝓤 viewedParams result viewedExit) (P′ : Promise 𝓤 partedParams result partedExit) (𝓣 : Tables 𝓤 H) (g : Name) where
-  ensured : (κs : Lfts 1) (a : Denots (typesAt viewedParams κs)) (r : result .row κs .Denot) → ((e : Outs κs viewedParams viewedExit) → ent 𝓤 (P′ κs (taken κs a) r (takenSeen κs e)) (P κs a r e))
+  ensured : (κs : Lfts 1) (a : Denots (typesAt viewedParams κs)) (r : result .row κs .Denot)
+      → ((e : Outs κs viewedParams viewedExit) → ent 𝓤 (P′ κs (taken κs a) r (takenSeen κs e)) (P κs a r e))
       → ent 𝓤 (ensures 𝓤 H A partedParams result partedExit P′ κs (taken κs a) r) (ensures 𝓤 H A viewedParams result viewedExit P κs a r)
   ensured κs a r same = exE 𝓤 _ (λ ws. via 𝓤 _ (mono∗ 𝓤 (view-lasts α others kept 𝓤 H A W κs (a .0) (a .1) (ws .1 .1)) (same a))
-      (exI 𝓤 (λ (zs : Fins κs viewedParams viewedExit a). sep 𝓤 (sem 𝓤 H A (lastsOf κs viewedParams viewedExit a zs)) (P κs a r (outs κs viewedParams viewedExit a zs))) (tt, ws .1 .1)))
+      (exI 𝓤 (λ (zs : Fins κs viewedParams viewedExit a). sep 𝓤 (sem 𝓤 H A (lastsOf κs viewedParams viewedExit a zs)) (P κs a r (outs κs viewedParams viewedExit a zs)))
+      (tt, ws .1 .1)))
 
-  pub read-meets : ((κs : Lfts 1) (a : Denots (typesAt viewedParams κs)) (r : result .row κs .Denot) (e : Outs κs viewedParams viewedExit) → ent 𝓤 (P′ κs (taken κs a) r (takenSeen κs e)) (P κs a r e))
+  pub read-meets : ((κs : Lfts 1) (a : Denots (typesAt viewedParams κs)) (r : result .row κs .Denot) (e : Outs κs viewedParams viewedExit)
+      → ent 𝓤 (P′ κs (taken κs a) r (takenSeen κs e)) (P κs a r e))
       → Triple 𝓤 (𝓣 .C g) (tripleOf 𝓤 H A (signature partedParams result) (spec 𝓤 H A partedParams result partedExit P′))
       → Meets 𝓤 H A (signature viewedParams result) (WpFn 𝓤 H (𝓣 .C) (𝓣 .Λ) (apartFirst τ (tyInt w32) (tyInt w64) g)) (spec 𝓤 H A viewedParams result viewedExit P)
   read-meets same = adapts 𝓤 H A W result τ typed viewedParams partedParams viewedExit partedExit P P′
-      (λ κs. (LL.vals (T.the-type (α κs)) (T′.the-laws (α κs)), (uint-vals w32, (uint-vals w64, tt)))) (λ κs. (LL.tells (T.the-type (α κs)) (T′.the-laws (α κs)), (uint-tells w32, (uint-tells w64, tt))))
+      (λ κs. (LL.vals (T.the-type (α κs)) (T′.the-laws (α κs)), (uint-vals w32, (uint-vals w64, tt))))
+      (λ κs. (LL.tells (T.the-type (α κs)) (T′.the-laws (α κs)), (uint-tells w32, (uint-tells w64, tt))))
       taken (λ κs a. (uint-vals w32 (a .0 .base), (bytesVals (a .0), (uint-vals w32 (a .1 .0), (uint-vals w64 (a .1 .1 .0), tt)))))
       (𝓣 .C) (fmOf 𝓤 H (W .laws) 𝓣) g (WpFn 𝓤 H (𝓣 .C) (𝓣 .Λ) (apartFirst τ (tyInt w32) (tyInt w64) g))
       (λ κs a. part-own α others kept 𝓤 H A W κs (a .0) (a .1) _)

@@ -39,8 +39,10 @@ pub fn draw_elements<'a>(
     stages: u32,
     out: &mut [f32],
 ) -> DrawReply
-    ensures { λ r. ⌜ Did (Call.draw (drawCall (Source.list (now (indices .entry))) mode stages (view .entry .base) (now (view .entry .bytes)) (length (now (out .entry))))) c (now (store .entry)) (r .number) (r .context) (now (store .entry)) ⌝ }
-    ensures { λ r. ⌜ Drew (drawCall (Source.list (now (indices .entry))) mode stages (view .entry .base) (now (view .entry .bytes)) (length (now (out .entry)))) c (now (store .entry)) (drawnOf r) (now (out .entry)) (now (out .exit)) ⌝ }
+    ensures { λ r. ⌜ Did (Call.draw (drawCall (Source.list (now (indices .entry))) mode stages (view .entry .base) (now (view .entry .bytes)) (length (now (out .entry)))))
+        c (now (store .entry)) (r .number) (r .context) (now (store .entry)) ⌝ }
+    ensures { λ r. ⌜ Drew (drawCall (Source.list (now (indices .entry))) mode stages (view .entry .base) (now (view .entry .bytes)) (length (now (out .entry))))
+        c (now (store .entry)) (drawnOf r) (now (out .entry)) (now (out .exit)) ⌝ }
 {
     gles_draws::draw_elements(c, store, view.base, view.bytes, mode, indices, stages, out)
 }
@@ -56,8 +58,10 @@ pub fn draw_arrays<'a>(
     stages: u32,
     out: &mut [f32],
 ) -> DrawReply
-    ensures { λ r. ⌜ Did (Call.draw (drawCall (Source.range first count) mode stages (view .entry .base) (now (view .entry .bytes)) (length (now (out .entry))))) c (now (store .entry)) (r .number) (r .context) (now (store .entry)) ⌝ }
-    ensures { λ r. ⌜ Drew (drawCall (Source.range first count) mode stages (view .entry .base) (now (view .entry .bytes)) (length (now (out .entry)))) c (now (store .entry)) (drawnOf r) (now (out .entry)) (now (out .exit)) ⌝ }
+    ensures { λ r. ⌜ Did (Call.draw (drawCall (Source.range first count) mode stages (view .entry .base) (now (view .entry .bytes)) (length (now (out .entry)))))
+        c (now (store .entry)) (r .number) (r .context) (now (store .entry)) ⌝ }
+    ensures { λ r. ⌜ Drew (drawCall (Source.range first count) mode stages (view .entry .base) (now (view .entry .bytes)) (length (now (out .entry))))
+        c (now (store .entry)) (drawnOf r) (now (out .entry)) (now (out .exit)) ⌝ }
 {
     gles_draws::draw_arrays(
         c,
@@ -84,8 +88,10 @@ pub fn draw_elements_from_guest<'a>(
     stages: u32,
     out: &mut [f32],
 ) -> DrawReply
-    ensures { λ r. ⌜ Did (Call.draw (drawCall (Source.elements count ty pointer) mode stages (view .entry .base) (now (view .entry .bytes)) (length (now (out .entry))))) c (now (store .entry)) (r .number) (r .context) (now (store .entry)) ⌝ }
-    ensures { λ r. ⌜ Drew (drawCall (Source.elements count ty pointer) mode stages (view .entry .base) (now (view .entry .bytes)) (length (now (out .entry)))) c (now (store .entry)) (drawnOf r) (now (out .entry)) (now (out .exit)) ⌝ }
+    ensures { λ r. ⌜ Did (Call.draw (drawCall (Source.elements count ty pointer) mode stages (view .entry .base) (now (view .entry .bytes)) (length (now (out .entry)))))
+        c (now (store .entry)) (r .number) (r .context) (now (store .entry)) ⌝ }
+    ensures { λ r. ⌜ Drew (drawCall (Source.elements count ty pointer) mode stages (view .entry .base) (now (view .entry .bytes)) (length (now (out .entry))))
+        c (now (store .entry)) (drawnOf r) (now (out .entry)) (now (out .exit)) ⌝ }
 {
     gles_draws::draw_elements_from_guest(
         c,
@@ -114,8 +120,10 @@ pub fn draw_elements_at<'a>(
     stages: u32,
     out: &mut [f32],
 ) -> DrawReply
-    ensures { λ r. ⌜ Did (Call.draw (drawCall (Source.list (now (indices .entry))) mode stages base (now (guest .entry)) (length (now (out .entry))))) c (now (store .entry)) (r .number) (r .context) (now (store .entry)) ⌝ }
-    ensures { λ r. ⌜ Drew (drawCall (Source.list (now (indices .entry))) mode stages base (now (guest .entry)) (length (now (out .entry)))) c (now (store .entry)) (drawnOf r) (now (out .entry)) (now (out .exit)) ⌝ }
+    ensures { λ r. ⌜ Did (Call.draw (drawCall (Source.list (now (indices .entry))) mode stages base (now (guest .entry)) (length (now (out .entry)))))
+        c (now (store .entry)) (r .number) (r .context) (now (store .entry)) ⌝ }
+    ensures { λ r. ⌜ Drew (drawCall (Source.list (now (indices .entry))) mode stages base (now (guest .entry)) (length (now (out .entry))))
+        c (now (store .entry)) (drawnOf r) (now (out .entry)) (now (out .exit)) ⌝ }
 {
     draw_elements(
         c,
@@ -140,8 +148,10 @@ pub fn draw_arrays_at<'a>(
     stages: u32,
     out: &mut [f32],
 ) -> DrawReply
-    ensures { λ r. ⌜ Did (Call.draw (drawCall (Source.range first count) mode stages base (now (guest .entry)) (length (now (out .entry))))) c (now (store .entry)) (r .number) (r .context) (now (store .entry)) ⌝ }
-    ensures { λ r. ⌜ Drew (drawCall (Source.range first count) mode stages base (now (guest .entry)) (length (now (out .entry)))) c (now (store .entry)) (drawnOf r) (now (out .entry)) (now (out .exit)) ⌝ }
+    ensures { λ r. ⌜ Did (Call.draw (drawCall (Source.range first count) mode stages base (now (guest .entry)) (length (now (out .entry)))))
+        c (now (store .entry)) (r .number) (r .context) (now (store .entry)) ⌝ }
+    ensures { λ r. ⌜ Drew (drawCall (Source.range first count) mode stages base (now (guest .entry)) (length (now (out .entry))))
+        c (now (store .entry)) (drawnOf r) (now (out .entry)) (now (out .exit)) ⌝ }
 {
     draw_arrays(
         c,
@@ -168,8 +178,10 @@ pub fn draw_elements_from_guest_at<'a>(
     stages: u32,
     out: &mut [f32],
 ) -> DrawReply
-    ensures { λ r. ⌜ Did (Call.draw (drawCall (Source.elements count ty pointer) mode stages base (now (guest .entry)) (length (now (out .entry))))) c (now (store .entry)) (r .number) (r .context) (now (store .entry)) ⌝ }
-    ensures { λ r. ⌜ Drew (drawCall (Source.elements count ty pointer) mode stages base (now (guest .entry)) (length (now (out .entry)))) c (now (store .entry)) (drawnOf r) (now (out .entry)) (now (out .exit)) ⌝ }
+    ensures { λ r. ⌜ Did (Call.draw (drawCall (Source.elements count ty pointer) mode stages base (now (guest .entry)) (length (now (out .entry)))))
+        c (now (store .entry)) (r .number) (r .context) (now (store .entry)) ⌝ }
+    ensures { λ r. ⌜ Drew (drawCall (Source.elements count ty pointer) mode stages base (now (guest .entry)) (length (now (out .entry))))
+        c (now (store .entry)) (drawnOf r) (now (out .entry)) (now (out .exit)) ⌝ }
 {
     draw_elements_from_guest(
         c,

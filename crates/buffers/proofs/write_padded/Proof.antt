@@ -38,10 +38,15 @@ returns c =
     let start = before .before .before .before .before .before .before in
     let a = start .args in
     let n = before .before .before .before .smaller in
-    let stored = put-first (now (a .store)) (a .at) (n .result) (a .size) (now (a .«data»)) _ (omega (arith, n .ensures)) (omega (arith, n .ensures)) (start .pre) (before .copy .ensures .1) in
-    let same = sym (ap length stored ∙ length-paste (now (a .store)) (a .at) (padded (a .size) (now (a .«data»))) (n .result) (omega (arith, n .ensures, start .pre)) (omega (arith, n .ensures, length-padded (a .size) (now (a .«data»))))) in
-    c .before .before .clear-bytes .ensures (now (a .store)) (now (a .«data»)) (omega (arith, n .ensures, c .before .before .before .before .if1 .taken)) same stored
-    ∙ paste-all (now (a .store)) (a .at) (padded (a .size) (now (a .«data»))) (a .size) (sym (length-padded (a .size) (now (a .«data»))))
+    let store = now (a .store) in
+    let bytes = now (a .«data») in
+    let all = padded (a .size) bytes in
+    let stored = put-first store (a .at) (n .result) (a .size) bytes _ (omega (arith, n .ensures)) (omega (arith, n .ensures)) (start .pre) (before .copy .ensures .1) in
+    let long = length-padded (a .size) bytes in
+    let pasted = length-paste store (a .at) all (n .result) (omega (arith, n .ensures, start .pre)) (omega (arith, n .ensures, long)) in
+    let same = sym (ap length stored ∙ pasted) in
+    c .before .before .clear-bytes .ensures store bytes (omega (arith, n .ensures, c .before .before .before .before .if1 .taken)) same stored
+    ∙ paste-all store (a .at) all (a .size) (sym long)
 
 returns-2 : tie.Need-returns-2
 returns-2 c =

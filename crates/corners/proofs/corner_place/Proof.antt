@@ -31,13 +31,15 @@ returns-4 : tie.Need-returns-4
 returns-4 c =
     let a = c .before .before .before .before .before .args in
     let h = c .before .before .before .before .if1 .left in
-    rw (lt-ltb _ _ h, ne-eqb _ _ (c .before .if2 .left), eq-eqb _ _ (c .if3 .taken)) (ap (λ (k : Corners). k .b) (triangle (a .p) (a .c) _ (c .before .before .corners-of .ensures) h))
+    let made = triangle (a .p) (a .c) _ (c .before .before .corners-of .ensures) h in
+    rw (lt-ltb _ _ h, ne-eqb _ _ (c .before .if2 .left), eq-eqb _ _ (c .if3 .taken)) (ap (λ (k : Corners). k .b) made)
 
 returns-5 : tie.Need-returns-5
 returns-5 c =
     let a = c .before .before .before .before .before .args in
     let h = c .before .before .before .before .if1 .left in
-    rw (lt-ltb _ _ h, ne-eqb _ _ (c .before .if2 .left), ne-eqb _ _ (c .if3 .left)) (ap (λ (k : Corners). k .c) (triangle (a .p) (a .c) _ (c .before .before .corners-of .ensures) h))
+    let made = triangle (a .p) (a .c) _ (c .before .before .corners-of .ensures) h in
+    rw (lt-ltb _ _ h, ne-eqb _ _ (c .before .if2 .left), ne-eqb _ _ (c .if3 .left)) (ap (λ (k : Corners). k .c) made)
 
 pub corner-place-spec : {M : Type 1} → statement M
 corner-place-spec =

@@ -26,7 +26,8 @@ returns-2 c =
     let s = c .before .before .before .before .before .start-of in
     let e = copied (now (a .area)) (s .result) (now (a .text)) _ (omega arith) (c .before .before .copy .ensures .1) in
     let same = same-len-mid (s .result) (length (now (a .area)) - s .result) (now (a .area)) (c .before .before .copy .last .1 .0) (c .before .before .copy .kept .1 .0) in
-    (counts _ _ (omega (arith, same)), ap (λ (d : List ℕ). page d (s .result + length (now (a .text)))) e ∙ put-fits (now (a .area)) (a .at) (now (a .text)) (s .result) (s .ensures) (omega arith))
+    let fits = put-fits (now (a .area)) (a .at) (now (a .text)) (s .result) (s .ensures) (omega arith) in
+    (counts _ _ (omega (arith, same)), ap (λ (d : List ℕ). page d (s .result + length (now (a .text)))) e ∙ fits)
 
 copy-requires : tie.Need-copy-requires
 copy-requires c κs =

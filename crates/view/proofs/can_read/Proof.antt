@@ -35,7 +35,11 @@ module _ {M : Type 1} (𝓤 : URA M) (H : Heap 𝓤) (A : Atoms 𝓤) (W : Given
 
   this-meets : (𝓣 : Tables 𝓤 H) → Triple 𝓤 (𝓣 .C #callee) (tripleOf 𝓤 H A callee.signature (callee.spec 𝓤 H A mem run))
       → Meets 𝓤 H A this.signature (WpFn 𝓤 H (𝓣 .C) (𝓣 .Λ) code.function) (this.spec 𝓤 H A mem run)
-  this-meets 𝓣 = read-meets 𝓤 H A W (this.signature .result) tyBool (λ κs r u is. bool-lawful 𝓤 H A W .typed r _ is .0) (λ κs a r e. this.clauses 𝓤 H A mem run κs a .ensures tt r e) (λ κs b r e. callee.clauses 𝓤 H A mem run κs b .ensures tt r e) 𝓣 #callee promised
+  this-meets 𝓣 = read-meets 𝓤 H A W (this.signature .result) tyBool
+      (λ κs r u is. bool-lawful 𝓤 H A W .typed r _ is .0)
+      (λ κs a r e. this.clauses 𝓤 H A mem run κs a .ensures tt r e)
+      (λ κs b r e. callee.clauses 𝓤 H A mem run κs b .ensures tt r e)
+      𝓣 #callee promised
 
 pub can-read-spec : {M : Type 1} → stated.statement M
 unfolding code.routine tablesOf
@@ -43,4 +47,5 @@ can-read-spec 𝓤 H 𝓜 𝓖 𝓡 =
     entered 𝓤 H (tripleOf 𝓤 H (𝓖 .A) this.signature (this.spec 𝓤 H (𝓖 .A) (𝓜 .mem) (𝓡 .run)))
     (tables 𝓤 H 𝓜 𝓡 code.env .C) (tables 𝓤 H 𝓜 𝓡 code.env .Λ) #this code.function (code.unfolded 𝓤 H 𝓜 𝓡)
     (this-meets 𝓤 H (𝓖 .A) (givenOf 𝓤 H 𝓜 𝓖) (𝓜 .mem) (𝓡 .run) (tablesOf 𝓤 H 𝓜 (tables 𝓤 H 𝓜 𝓡 code.env))
-    (cited 𝓤 H (tripleOf 𝓤 H (𝓖 .A) callee.signature (callee.spec 𝓤 H (𝓖 .A) (𝓜 .mem) (𝓡 .run))) 𝓜 𝓡 code.env #callee callee-def.routine code.calls-fetch·can-read (callee-thm.met 𝓤 H 𝓜 𝓖 𝓡)))
+    (cited 𝓤 H (tripleOf 𝓤 H (𝓖 .A) callee.signature (callee.spec 𝓤 H (𝓖 .A) (𝓜 .mem) (𝓡 .run)))
+    𝓜 𝓡 code.env #callee callee-def.routine code.calls-fetch·can-read (callee-thm.met 𝓤 H 𝓜 𝓖 𝓡)))

@@ -65,7 +65,8 @@ module _ {M : Type 1} (𝓤 : URA M) (H : Heap 𝓤) (A : Atoms 𝓤) (W : Given
       (λ κs. (uint-vals w32, (slice-vals, (uint-vals w32, (slice-vals, tt)))))
       (λ κs. (uint-tells w32, (shr-slice-tells (named 1) (κs .1 .0) u32, (uint-tells w32, (mut-slice-tells (named 2) (κs .1 .1 .0) f32, tt)))))
       (𝓣 .C) (fmOf 𝓤 H (W .laws) 𝓣) #callee (WpFn 𝓤 H (𝓣 .C) (𝓣 .Λ) code.function) promised
-      (λ κs a Q are. apart3-forwards 𝓤 H A W (𝓣 .C) (𝓣 .Λ) (fmOf 𝓤 H (W .laws) 𝓣) 3 (named 2) S′.mir X′.mir (bytesTy (named 0)) (tyInt w32) (sliceTy (tyRef (named 1) imm (tyInt w32))) (tyInt w32) #callee _ _ _ _ _ _ _ _ _ _ Q
+      (λ κs a Q are. apart3-forwards 𝓤 H A W (𝓣 .C) (𝓣 .Λ) (fmOf 𝓤 H (W .laws) 𝓣) 3 (named 2) S′.mir X′.mir (bytesTy (named 0))
+      (tyInt w32) (sliceTy (tyRef (named 1) imm (tyInt w32))) (tyInt w32) #callee _ _ _ _ _ _ _ _ _ _ Q
       (LL.lawful X.the-type X′.the-laws 𝓤 H A W .typed (a .0) _ (are .0) .0)
       (shr-slice-lawful 𝓤 H A W (named 0) (κs .0) u8 .typed (a .1 .0) _ (are .1 .0) .0)
       (LL.lawful (T.the-type (α κs)) (T′.the-laws (α κs)) 𝓤 H A W .typed (a .1 .1 .0) _ (are .1 .1 .0) .0)
@@ -80,4 +81,5 @@ draw-elements-spec 𝓤 H 𝓜 𝓖 𝓡 =
     entered 𝓤 H (tripleOf 𝓤 H (𝓖 .A) this.signature (this.spec 𝓤 H (𝓖 .A) (𝓜 .mem) (𝓡 .run)))
     (tables 𝓤 H 𝓜 𝓡 code.env .C) (tables 𝓤 H 𝓜 𝓡 code.env .Λ) #this code.function (code.unfolded 𝓤 H 𝓜 𝓡)
     (this-meets 𝓤 H (𝓖 .A) (givenOf 𝓤 H 𝓜 𝓖) (𝓜 .mem) (𝓡 .run) (tablesOf 𝓤 H 𝓜 (tables 𝓤 H 𝓜 𝓡 code.env))
-    (cited 𝓤 H (tripleOf 𝓤 H (𝓖 .A) callee.signature (callee.spec 𝓤 H (𝓖 .A) (𝓜 .mem) (𝓡 .run))) 𝓜 𝓡 code.env #callee callee-def.routine code.calls-gles-draws·draw-elements (callee-thm.met 𝓤 H 𝓜 𝓖 𝓡)))
+    (cited 𝓤 H (tripleOf 𝓤 H (𝓖 .A) callee.signature (callee.spec 𝓤 H (𝓖 .A) (𝓜 .mem) (𝓡 .run)))
+    𝓜 𝓡 code.env #callee callee-def.routine code.calls-gles-draws·draw-elements (callee-thm.met 𝓤 H 𝓜 𝓖 𝓡)))
