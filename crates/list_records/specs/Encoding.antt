@@ -1,4 +1,5 @@
--- Calls as records (specs of crate list_runner: lists of them). A record has a code and words. The bytes that a call borrows lie in an area of bytes, at the place that the words name.
+-- Calls as records (specs of crate list_runner: lists of them). A record has a code and words.
+-- The bytes that a call borrows lie in an area of bytes, at the place that the words name.
 use mathlib.Core.Bool.{Bool, false, cond}
 use mathlib.Core.List.{List, [], _∷_}
 use mathlib.Core.Option.{Option, some, none}
