@@ -8,7 +8,9 @@ say_version() { printf 'Beonasul %s, traces of version 1\n' "$(cat "$root/VERSIO
 
 group= child= feeder= ticker=
 
-# A signal that stops the script stops its work too. What the script set for its end (trap .. EXIT) is done as well.
+# A signal that stops the script stops its work too. What the script set for its end (trap .. EXIT) is done as well: only where there is such
+# a trap before those of the signals does the shell do it when a signal ends it.
+trap : EXIT
 for signal in INT TERM HUP; do
     # shellcheck disable=SC2064
     trap "stop_work; trap - $signal; kill -$signal $$" "$signal"
