@@ -2,8 +2,6 @@
 use Prim.Native.Nat.{ℕ, _*_}
 use mathlib.Core.Bool.{Bool, cond, _||_}
 use mathlib.Core.List.{List}
-use mathlib.Core.Logic.{_⊎_}
-use mathlib.Core.Path.{_≡_}
 use lib.Dec.{eqb, ltb}
 use lib.Ieee.{Float, binary32, ofBits}
 use lib.IntN.{ℤ, pos}
@@ -50,9 +48,3 @@ vectorOf ty size normalize bytes =
       z = component ty size normalize bytes 2 f0;
       w = component ty size normalize bytes 3 f1;
     }
-
--- ---- for the code
-
--- a known type's width
-abbrev pub OneTwoFour : ℕ → Type 0
-OneTwoFour w = (w ≡ 1) ⊎ ((w ≡ 2) ⊎ (w ≡ 4))

@@ -9,8 +9,6 @@ use lib.ListN.{length, take, drop}
 use Rattle.fetch.specs.Decode.{componentBytes, vectorOf}
 use Rattle.fetch.specs.declared.ArrayPointer.{ArrayPointer}
 use Rattle.fetch.specs.declared.Fetched.{Fetched}
-use Rattle.fetch.specs.declared.Address.{Address}
-use Rattle.fetch.specs.declared.Place.{Place}
 use Rattle.fetch.specs.declared.PartState.{PartState}
 
 abbrev pub freshArray : ArrayPointer
@@ -30,15 +28,21 @@ elementBytes a = componentBytes (a .ty) * a .size
 abbrev pub strideOf : ArrayPointer → ℕ
 strideOf a = cond (eqb (a .stride) 0) (elementBytes a) (a .stride)
 
+-- an element's address with its length, or why it has none
+pub data Address : Type 0 where
+  at : (address len : ℕ) → Address
+  unknownType : Address
+  overflow : Address
+
 -- The address of an element, with L. It has none if its type is unknown, or if bytes times size (also when a stride is given),
 -- stride times index, or pointer plus that product passes 2^32-1.
 unfoldable pub addressOf : ArrayPointer → ℕ → Address
 addressOf a index =
-    cond (eqb (componentBytes (a .ty)) 0) Address.UnknownType
-    (cond (ltb lastAddress (elementBytes a)) Address.Overflow
-    (cond (ltb lastAddress (strideOf a * index)) Address.Overflow
-    (cond (ltb lastAddress (a .pointer + strideOf a * index)) Address.Overflow
-    (Address.At (a .pointer + strideOf a * index) (elementBytes a)))))
+    cond (eqb (componentBytes (a .ty)) 0) unknownType
+    (cond (ltb lastAddress (elementBytes a)) overflow
+    (cond (ltb lastAddress (strideOf a * index)) overflow
+    (cond (ltb lastAddress (a .pointer + strideOf a * index)) overflow
+    (at (a .pointer + strideOf a * index) (elementBytes a)))))
 
 -- ---- the bytes
 
@@ -68,6 +72,12 @@ isFound (bytes bs) = true
 isFound noBuffer = false
 isFound unreadable = false
 
+-- whether there are bytes, or why not
+abbrev pub partState : Part → PartState
+partState (bytes bs) = PartState.Found
+partState noBuffer = PartState.NoBuffer
+partState unreadable = PartState.Unreadable
+
 -- a part's bytes, none where there are none
 abbrev pub bytesIn : Part → List ℕ
 bytesIn (bytes bs) = bs
@@ -82,9 +92,9 @@ decoded a normalize noBuffer = Fetched.NoBuffer
 decoded a normalize unreadable = Fetched.Unreadable
 
 abbrev pub fetchedAt : (ℕ → Option (List ℕ)) → ℕ → List ℕ → ArrayPointer → Bool → Address → Fetched
-fetchedAt contents base guest a normalize (Address.At address len) = decoded a normalize (partOf contents base guest (a .buffer) address len)
-fetchedAt contents base guest a normalize Address.UnknownType = Fetched.UnknownType
-fetchedAt contents base guest a normalize Address.Overflow = Fetched.Overflow
+fetchedAt contents base guest a normalize (at address len) = decoded a normalize (partOf contents base guest (a .buffer) address len)
+fetchedAt contents base guest a normalize unknownType = Fetched.UnknownType
+fetchedAt contents base guest a normalize overflow = Fetched.Overflow
 
 -- element `index` of an array, from the live names' contents and the guest bytes from `base` on
 unfoldable pub fetched : (ℕ → Option (List ℕ)) → ℕ → List ℕ → ArrayPointer → ℕ → Bool → Fetched
@@ -97,20 +107,3 @@ positionNumber Fetched.UnknownType = 9
 positionNumber Fetched.Overflow = 9
 positionNumber Fetched.NoBuffer = 9
 positionNumber Fetched.Unreadable = 9
-
--- ---- for the code
-
-abbrev pub stateOf : Part → PartState
-stateOf (bytes bs) = PartState.Found
-stateOf noBuffer = PartState.NoBuffer
-stateOf unreadable = PartState.Unreadable
-
--- the bytes that an element is a part of: with buffer 0 the guest's, else the store's
-abbrev pub sourceOf : ℕ → List ℕ → List ℕ → List ℕ
-sourceOf buffer store guest = cond (eqb buffer 0) guest store
-
--- where the code finds the bytes: they are the `len` from `at` on in the source
-abbrev pub Located : Part → List ℕ → ℕ → Place → Type 0
-Located part source len (Place.At at) = (at + len ≤ length source) × (part ≡ bytes (take len (drop at source)))
-Located part source len Place.NoBuffer = part ≡ noBuffer
-Located part source len Place.Unreadable = part ≡ unreadable

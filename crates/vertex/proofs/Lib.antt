@@ -2,4 +2,3 @@ pub mod IndexLists
 pub mod Search
 pub mod Questions
 pub mod Sources
-pub mod Plans

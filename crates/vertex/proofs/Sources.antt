@@ -10,10 +10,11 @@ use borrow.Author.Tests.{eq-eqb, ne-eqb, leb-true, lt-leb}
 use lib.Dec.{eqb, ltb, leb}
 use lib.ListN.{length, take, drop, length-take, length-drop}
 use Rattle.buffers.proofs.Bounds.{never}
-use Rattle.fetch.specs.Fetch.{Part, bytes, noBuffer, unreadable, inBuffer, inGuest, partOf, bytesIn, stateOf}
+use Rattle.fetch.specs.Fetch.{Part, bytes, noBuffer, unreadable, inBuffer, inGuest, partOf, partState, bytesIn}
 use Rattle.vertex.specs.Scene.{Scene, elements}
-use Rattle.vertex.specs.Index.{numbers, indexWidth, indexPart, indicesIn, indicesFrom, indexList}
-use Rattle.vertex.specs.Questions.{listNumber, partNumber, elementsNumber, viewNumber, validation, stateNumber}
+use Rattle.vertex.specs.Index.{numbers, indexWidth, indexPart, indicesIn, indicesFrom}
+use Rattle.vertex.specs.Represented.{indexList}
+use Rattle.vertex.specs.Questions.{listNumber, partNumber, elementsNumber, viewNumber, validation}
 use Rattle.vertex.specs.declared.Indices.{Indices}
 
 -- ---- the guest view and the mask
@@ -68,7 +69,7 @@ sized contents base guest buffer address len = go (eqb buffer 0)
     go false = sized-buffer (contents buffer) address len
 
 -- the code's list of a part that is there
-pub stored-list : (part : Part) (element w n : ℕ) (l : List ℕ) → partNumber element part ≡ 0 → Sized part (n * w) → (w ≡ 1) ⊎ (w ≡ 2)
+pub stored-list : (part : Part) (element w n : ℕ) (l : List ℕ) → partNumber element (partState part) ≡ 0 → Sized part (n * w) → (w ≡ 1) ⊎ (w ≡ 2)
     → indicesIn part w n ≡ indexList (cond (eqb w 1) Indices.Bytes Indices.Shorts) l (bytesIn part)
 stored-list (bytes bs) element w n l z e side = ⊎-elim one two side
   where
@@ -111,7 +112,7 @@ module _ (s : Scene) (element count ty pointer w : ℕ) (e : w ≡ indexWidth ty
   no-type z = rw (sym e, eq-eqb w 0 z)
 
   pub part-asked : (w ≡ 0 → ⊥) → count * w < 18446744073709551616 → (r : ℕ)
-      → r ≡ partNumber element (partOf (s .contents) (s .base) (s .guest) element pointer (count * w)) → r ≡ elementsNumber s element count ty pointer
+      → r ≡ partNumber element (partState (partOf (s .contents) (s .base) (s .guest) element pointer (count * w))) → r ≡ elementsNumber s element count ty pointer
   unfolding elementsNumber
   part-asked z h r f = rw (sym e, ne-eqb w 0 z, lt-leb 18446744073709551616 (count * w) h) f
 
@@ -126,23 +127,17 @@ module _ (s : Scene) (element mode count ty pointer : ℕ) (v : (n : ℕ) → vi
       → validation s element mode (elements count ty pointer) ≡ listNumber s mode (indicesFrom s element (elements count ty pointer))
   stored-some f z = v _ ∙ rw (sym f, ne-eqb count 0 z)
 
--- the number of a part, by what the code finds of it
-pub by-state : (element : ℕ) (part : Part) → stateNumber element (stateOf part) ≡ partNumber element part
-by-state element (bytes bs) = refl
-by-state element noBuffer = refl
-by-state element unreadable = refl
-
 -- where the questions on such indices are answered, the width is known and the part is there
 module _ (s : Scene) (element count ty pointer w : ℕ) (e : w ≡ indexWidth ty) (z : 0 ≡ elementsNumber s element count ty pointer) where
   pub width-there : (w ≡ 1) ⊎ (w ≡ 2)
   width-there = widths ty w e (λ q. absurd (omega (arith, no-type s element count ty pointer w e q, z)))
 
-  pub part-there : partNumber element (indexPart s element count ty pointer) ≡ 0
+  pub part-there : partNumber element (partState (indexPart s element count ty pointer)) ≡ 0
   unfolding elementsNumber
   part-there = go (eqb (indexWidth ty) 0) (leb 18446744073709551616 (count * indexWidth ty)) z
     where
-      go : (a b : Bool) → 0 ≡ cond a 0x0500 (cond b 0x0501 (partNumber element (indexPart s element count ty pointer)))
-          → partNumber element (indexPart s element count ty pointer) ≡ 0
+      go : (a b : Bool) → 0 ≡ cond a 0x0500 (cond b 0x0501 (partNumber element (partState (indexPart s element count ty pointer))))
+          → partNumber element (partState (indexPart s element count ty pointer)) ≡ 0
       go true b f = absurd (omega arith)
       go false true f = absurd (omega arith)
       go false false f = sym f
@@ -154,6 +149,6 @@ module _ (s : Scene) (element count ty pointer w : ℕ) (e : w ≡ indexWidth ty
   stored-indices l kind bs ek eb =
       ap (λ (x : ℕ). indicesIn (partOf (s .contents) (s .base) (s .guest) element pointer (count * x)) x count) (sym e)
       ∙ stored-list (partOf (s .contents) (s .base) (s .guest) element pointer (count * w)) element w count l
-      (ap (λ (x : ℕ). partNumber element (partOf (s .contents) (s .base) (s .guest) element pointer (count * x))) e ∙ part-there)
+      (ap (λ (x : ℕ). partNumber element (partState (partOf (s .contents) (s .base) (s .guest) element pointer (count * x)))) e ∙ part-there)
       (sized (s .contents) (s .base) (s .guest) element pointer (count * w)) width-there
       ∙ (λ i. indexList (sym ek i) l (sym eb i))

@@ -1,12 +1,11 @@
 -- The indices of a draw (01: "Draws").
 use mathlib.Core.Bool.{cond}
 use mathlib.Core.List.{List, [], _∷_}
-use Prim.Native.Nat.{ℕ, zero, suc, _+_, _-_, _*_, _/_, min}
+use Prim.Native.Nat.{ℕ, zero, suc, _+_, _-_, _*_, min}
 use lib.Dec.{eqb}
 use lib.ListN.{length, take, drop}
 use Rattle.number.specs.Numbers.{le}
 use Rattle.fetch.specs.Fetch.{Part, bytes, noBuffer, unreadable, partOf}
-use Rattle.vertex.specs.declared.Indices.{Indices}
 use Rattle.vertex.specs.Scene.{Scene, Source, list, range, elements}
 
 -- first, first + 1, and so on: n numbers
@@ -47,12 +46,3 @@ abbrev pub indexTotal : Source → ℕ
 indexTotal (list is) = length is
 indexTotal (range first count) = rangeCount first count
 indexTotal (elements count ty pointer) = count
-
--- ---- for the code
-
--- the list that the code's kind of indices stands for
-abbrev pub indexList : Indices → List ℕ → List ℕ → List ℕ
-indexList Indices.List is bs = is
-indexList (Indices.Range first end) is bs = upFrom first (end - first)
-indexList Indices.Bytes is bs = numbers 1 (length bs) bs
-indexList Indices.Shorts is bs = numbers 2 (length bs / 2) bs

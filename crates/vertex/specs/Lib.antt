@@ -2,4 +2,4 @@ pub mod Scene
 pub mod Index
 pub mod Vertex
 pub mod Questions
-pub mod Plan
+pub mod Represented

@@ -5,7 +5,7 @@ use Prim.Native.Nat.{ℕ, _+_, _*_}
 use lib.Dec.{ltb, leb, eqb}
 use lib.ListN.{length, getD}
 use Rattle.buffers.specs.Bounded.{first}
-use Rattle.fetch.specs.Fetch.{Part, bytes, noBuffer, unreadable, positionNumber}
+use Rattle.fetch.specs.Fetch.{partState, positionNumber}
 use Rattle.fetch.specs.declared.ArrayPointer.{ArrayPointer}
 use Rattle.fetch.specs.declared.PartState.{PartState}
 use Rattle.vertex.specs.Scene.{Source, list, range, elements, Scene}
@@ -37,17 +37,17 @@ listNumber s mode is =
     0)))
 
 -- a range of indices that is not there: 0x0501 in the element buffer, 7 in guest memory
-abbrev pub partNumber : ℕ → Part → ℕ
-partNumber element (bytes bs) = 0
-partNumber element noBuffer = 0x0501
-partNumber element unreadable = cond (eqb element 0) 7 0x0501
+abbrev pub partNumber : ℕ → PartState → ℕ
+partNumber element PartState.Found = 0
+partNumber element PartState.NoBuffer = 0x0501
+partNumber element PartState.Unreadable = cond (eqb element 0) 7 0x0501
 
 -- the tests of a draw whose indices lie in the element buffer or in guest memory
 unfoldable pub elementsNumber : Scene → ℕ → ℕ → ℕ → ℕ → ℕ
 elementsNumber s element count ty pointer =
     cond (eqb (indexWidth ty) 0) 0x0500
     (cond (leb 18446744073709551616 (count * indexWidth ty)) 0x0501
-    (partNumber element (indexPart s element count ty pointer)))
+    (partNumber element (partState (indexPart s element count ty pointer))))
 
 -- both, by the source of the indices; a draw of the second kind without an index answers 0, whatever the mode
 abbrev pub sourceNumber : Scene → ℕ → ℕ → Source → ℕ
@@ -64,11 +64,3 @@ viewNumber base len stages n = cond (ltb 4294967296 (base + len)) 2 (cond (leb 1
 -- the number of the first test that fails, before that of the room in the output
 abbrev pub validation : Scene → ℕ → ℕ → Source → ℕ
 validation s element mode source = viewNumber (s .base) (length (s .guest)) (s .stages) (sourceNumber s element mode source)
-
--- ---- for the code
-
--- the number of a part of which the code knows only whether it is there
-abbrev pub stateNumber : ℕ → PartState → ℕ
-stateNumber element PartState.Found = 0
-stateNumber element PartState.NoBuffer = 0x0501
-stateNumber element PartState.Unreadable = cond (eqb element 0) 7 0x0501

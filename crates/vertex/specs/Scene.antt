@@ -4,10 +4,8 @@ use mathlib.Core.Option.{Option}
 use Prim.Native.Nat.{ℕ}
 use lib.Ieee.{Float}
 use Rattle.matrix.specs.Matrix.{product}
-use Rattle.buffers.specs.Objects.{contentsOf}
 use Rattle.arrays.specs.declared.Arrays.{Arrays}
 use Rattle.arrays.specs.declared.Attributes.{Attributes}
-use Rattle.vertex.specs.declared.Scene as Code
 
 -- the current matrices, the live names with their bytes, the element binding, the arrays, the current values
 pub record DrawState : Type 0 where
@@ -58,21 +56,4 @@ sceneOf s d =
       base = d .base;
       guest = d .guest;
       stages = d .stages;
-    }
-
--- ---- for the code
-
--- the scene of the code's record, over the bytes of store and guest
-abbrev pub sceneIn : Code.Scene → List ℕ → List ℕ → Scene
-sceneIn s store guest =
-    record {
-      transform = s .transform;
-      modelview = s .modelview;
-      texture = s .texture;
-      contents = contentsOf (s .buffers .slots) store;
-      arrays = s .arrays;
-      attributes = s .attributes;
-      base = s .base;
-      guest = guest;
-      stages = s .stages;
     }

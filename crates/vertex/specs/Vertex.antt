@@ -73,6 +73,10 @@ stagePair s index unit =
 abbrev pub pairOf : Scene → ℕ → ℕ → Pair
 pairOf s index unit = cond (hasStage (s .stages) unit) (stagePair s index unit) noPair
 
+-- the four pairs by unit
+abbrev pub texcoordsOf : Scene → ℕ → List Float
+texcoordsOf s index = pairWords (pairOf s index 0) ++ pairWords (pairOf s index 1) ++ pairWords (pairOf s index 2) ++ pairWords (pairOf s index 3)
+
 -- ---- the vertex
 
 unfoldable pub vertexOf : Scene → ℕ → Vertex
@@ -80,7 +84,7 @@ vertexOf s index =
     record {
       position = transformed (s .transform) (objectPosition s index);
       color = colorOf s index;
-      texcoords = pairWords (pairOf s index 0) ++ pairWords (pairOf s index 1) ++ pairWords (pairOf s index 2) ++ pairWords (pairOf s index 3);
+      texcoords = texcoordsOf s index;
       -- eye z with its sign bit cleared
       fog = magnitude (transformRow (s .modelview) (objectPosition s index) 2);
     }

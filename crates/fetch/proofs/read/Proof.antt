@@ -1,16 +1,15 @@
 -- `fetch::read` meets its contract: each arm is the case of the place.
 use mathlib.Core.Path.{sym, ap, _∙_}
 use Rattle.fetch.specs.Fetch.{bytesIn}
-use native.Mathlib.Omega.{arith}
 use borrow.Author.Needs.{needs}
 use Rattle.fetch.proofs.read.Statement.{statement}
 use Rattle.fetch.proofs.read.Tie as tie
 
-element-requires : tie.Need-element-requires
-element-requires c κs = let h = (rw (c .before .place .given .1) at (c .before .before .before .find-in-guest .ensures)) .0 in omega arith
+cut-requires : tie.Need-cut-requires
+cut-requires c κs = (rw (c .before .place .given .1) at (c .before .before .before .find-in-guest .ensures)) .0
 
 returns : tie.Need-returns
-returns c = let p = (rw (c .before .before .place .given .1) at (c .before .before .before .before .find-in-guest .ensures)) in c .element .ensures ∙ sym (ap bytesIn (p .1))
+returns c = let p = (rw (c .before .before .place .given .1) at (c .before .before .before .before .find-in-guest .ensures)) in c .cut .ensures ∙ sym (ap bytesIn (p .1))
 
 returns-2 : tie.Need-returns-2
 returns-2 c = rw (rw (c .before .enum-told .given .1) at (c .before .before .before .find-in-guest .ensures))
@@ -24,7 +23,7 @@ read-spec =
     (tie.spec
     (λ c κs. search needs)
     (λ c. search needs)
-    element-requires
+    cut-requires
     (λ c. search needs)
     (λ c. search needs)
     (λ c. search needs)

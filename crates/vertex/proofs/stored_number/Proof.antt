@@ -1,12 +1,10 @@
 -- `vertex::stored_number` meets its contract: the questions in their order.
 use native.Mathlib.Omega.{arith}
 use denote.Ref.{now}
-use Prim.Native.Nat.{_*_}
-use Rattle.fetch.specs.Fetch.{partOf}
-use Rattle.vertex.specs.Scene.{sceneIn}
+use Rattle.vertex.specs.Represented.{sceneIn}
 use mathlib.Core.Path.{ap, _∙_}
-use Rattle.vertex.specs.Questions.{stateNumber}
-use Rattle.vertex.proofs.Sources.{by-state, widths, product-fits, quotient-not-less, no-type, part-asked}
+use Rattle.vertex.specs.Questions.{partNumber}
+use Rattle.vertex.proofs.Sources.{widths, product-fits, quotient-not-less, no-type, part-asked}
 use borrow.Author.Needs.{needs}
 use Rattle.vertex.proofs.stored_number.Statement.{statement}
 use Rattle.vertex.proofs.stored_number.Tie as tie
@@ -34,8 +32,7 @@ returns-3 c =
     let w = c4 .before .index-width .result in
     part-asked s _ _ _ _ w (c4 .before .index-width .ensures) (c4 .if1 .left)
     (product-fits (args .count) w (omega (arith, c8)) (widths _ _ (c4 .before .index-width .ensures) (c4 .if1 .left))) _
-    (c .part-number .ensures ∙ ap (stateNumber (args .element)) (c .before .part-state .ensures)
-    ∙ by-state (args .element) (partOf (s .contents) (s .base) (s .guest) (args .element) (args .pointer) (args .count * w)))
+    (c .part-number .ensures ∙ ap (partNumber (args .element)) (c .before .part-state .ensures))
 
 pub stored-number-spec : {M : Type 1} → statement M
 stored-number-spec =

@@ -1,0 +1,21 @@
+-- `assembly::corner_index` meets its contract.
+use Prim.Native.Nat.{ℕ}
+use mathlib.Core.Path.{_≡_, ap, _∙_}
+use denote.Ref.{now}
+use lib.ListN.{getD}
+use borrow.Author.Tests.{lt-ltb}
+use Rattle.corners.specs.Places.{reach, cornerPlace}
+use Rattle.vertex.specs.Represented.{indexList}
+use borrow.Author.Needs.{needs}
+use Rattle.assembly.proofs.corner_index.Statement.{statement}
+use Rattle.assembly.proofs.corner_index.Tie as tie
+
+returns : tie.Need-returns
+returns c =
+    let start = c .before .before .before .before in
+    let a = start .args in
+    let place : c .before .corner-place .result ≡ cornerPlace (a .p) (a .c) = c .before .corner-place .ensures ∙ rw (lt-ltb (a .c) reach (start .pre)) in
+    c .index-at .ensures ∙ ap (λ (k : ℕ). getD (indexList (a .kind) (now (a .list)) (now (a .elements))) k 0) place
+
+pub corner-index-spec : {M : Type 1} → statement M
+corner-index-spec = tie.close (tie.spec (λ c κs. search needs) (λ c κs. search needs) returns)
