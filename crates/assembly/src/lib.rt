@@ -418,7 +418,13 @@ fn element<'a>(store: &'a [u8], guest: &'a [u8], buffer: u32, at: usize, len: us
 }
 
 // Element `index` of an array: as a position, as a colour (normalised), as a texture pair.
-fn fetch_position<'a>(s: Scene, e: Prepared, store: &'a [u8], guest: &'a [u8], index: u32) -> Fetched
+fn fetch_position<'a>(
+    s: Scene,
+    e: Prepared,
+    store: &'a [u8],
+    guest: &'a [u8],
+    index: u32,
+) -> Fetched
     requires { ⌜ PreparesFor (sceneIn s (now store) (now guest)) (now store) (e .array) e ⌝ }
     ensures { λ r. ⌜ r ≡ elementOf (sceneIn s (now (store .entry)) (now (guest .entry))) (e .array) index false ⌝ }
 {
@@ -473,13 +479,7 @@ fn fetch_pair<'a>(s: Scene, e: Prepared, store: &'a [u8], guest: &'a [u8], index
 }
 
 // A position that cannot be fetched counts as 0, 0, 0, 1; a draw with one is refused.
-fn position_at<'a>(
-    s: Scene,
-    e: Prepared,
-    store: &'a [u8],
-    guest: &'a [u8],
-    index: u32,
-) -> [f32; 4]
+fn position_at<'a>(s: Scene, e: Prepared, store: &'a [u8], guest: &'a [u8], index: u32) -> [f32; 4]
     requires { ⌜ PreparesFor (sceneIn s (now store) (now guest)) (now store) (s .arrays .vertex) e ⌝ }
     ensures { λ r. ⌜ r ≡ objectPosition (sceneIn s (now (store .entry)) (now (guest .entry))) index ⌝ }
 {

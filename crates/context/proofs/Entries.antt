@@ -31,7 +31,8 @@ use Rattle.pipeline.specs.Pipeline.{PipelineCall, pipelineStep, freshPipeline}
 use Rattle.pipeline.specs.declared.Pipeline.{Pipeline}
 use Rattle.pipeline.specs.declared.PipelineAnswer.{PipelineAnswer}
 use Rattle.pipeline.proofs.Laws.{refusal-keeps, active-stays}
-use Rattle.vertex.specs.Scene.{Source, DrawCall, sceneIn}
+use Rattle.vertex.specs.Scene.{Source, DrawCall}
+use Rattle.vertex.specs.Represented.{sceneIn}
 use Rattle.vertex.specs.declared.Scene.{Scene}
 use Rattle.draw.specs.Draw.{drawIn, Draws}
 use Rattle.draw.specs.declared.Drawn.{Drawn}

@@ -8,7 +8,7 @@ use borrow.Author.Tests.{ltb-true, ltb-false, eqb-true, eqb-false, not-true, not
 use lib.Dec.{eqb, ltb, leb}
 use lib.ListN.{length}
 use Rattle.buffers.specs.Bounded.{first}
-use Rattle.fetch.specs.Fetch.{Part, bytes, noBuffer, unreadable}
+use Rattle.fetch.specs.Fetch.{Part, bytes, noBuffer, unreadable, partState}
 use Rattle.vertex.specs.Scene.{Scene, Source, list, range, elements}
 use Rattle.vertex.specs.Index.{indexWidth, indexPart, indicesIn, indicesFrom, rangeCount, indexTotal}
 use Rattle.vertex.specs.Questions.{positionAt, fails, failingPlace, hasVertices, listNumber, partNumber, elementsNumber, sourceNumber, viewNumber, validation}
@@ -38,7 +38,7 @@ modes-of s mode is e =
     real : ltb (failingPlace s is) (length is) ≡ true → positionAt s is (failingPlace s is) ≡ 0 → ⊥
     real h = eqb-false _ _ (not-true _ (first-real (fails s is) 0 (length is) (omega (arith, ltb-true (failingPlace s is) (length is) h))))
 
-indices-counted : (element w n : ℕ) (p : Part) → partNumber element p ≡ 0 → length (indicesIn p w n) ≡ n
+indices-counted : (element w n : ℕ) (p : Part) → partNumber element (partState p) ≡ 0 → length (indicesIn p w n) ≡ n
 indices-counted element w n (bytes bs) e = length-numbers w n bs
 indices-counted element w n noBuffer e = absurd (omega arith)
 indices-counted element w n unreadable e = go (eqb element 0) e

@@ -14,18 +14,6 @@ use Rattle.corners.specs.Places.{triangleCount, cornersOf}
 use Rattle.draw.specs.Triangles.{Triangle, threeWords, trianglesTo, wordsOf}
 use Rattle.corners.specs.declared.Primitive.{Primitive}
 
--- ---- runs of stores
-module _ {A : Type 0} where
-  -- two runs, the second where the first ends
-  pub sets-append : (l : List A) (i : ℕ) (a b : List A) → sets (sets l i a) (i + length a) b ≡ sets l i (a ++ b)
-  sets-append l i [] b = rw add-zero
-  sets-append l i (x ∷ a) b = let e : i + suc (length a) ≡ suc i + length a = omega arith in rw e (sets-append (set l i x) (suc i) a b)
-
-  -- a list is l with a stored from i, and then it has b stored from where that ends
-  pub sets-then : (l : List A) (i : ℕ) (a b : List A) {o o′ : List A} {j : ℕ} → o ≡ sets l i a → o′ ≡ sets o j b → j ≡ i + length a → o′ ≡ sets l i (a ++ b)
-  sets-then l i a b p q e = q ∙ rw (p, e) (sets-append l i a b)
-
--- ---- lists of triangles
 pub words-append : (a b : List Triangle) → wordsOf (a ++ b) ≡ wordsOf a ++ wordsOf b
 unfolding wordsOf
 words-append [] b = refl

@@ -1,3 +1,2 @@
 pub mod Triangles
-pub mod Corners
 pub mod Draw

@@ -1,4 +1,4 @@
-// Drawing below the calls: the vertices of corners in the output, the three draws.
+// Drawing below the calls: the triangles in the output, the three draws.
 use corners::Primitive;
 use vertex::Indices;
 use vertex::Scene;
@@ -6,12 +6,10 @@ ghost use mathlib.Core.Path.{_≡_};
 ghost use Prim.Native.Nat.{ℕ, _+_, _*_, _<_, _≤_};
 ghost use lib.ListN.{length, take, drop};
 ghost use lib.Seq.{sets};
-ghost use Rattle.vertex.specs.Scene.{Source, sceneIn};
-ghost use Rattle.vertex.specs.Index.{indexList};
-ghost use Rattle.vertex.specs.Vertex.{four, vertexWords};
+ghost use Rattle.vertex.specs.Scene.{Source};
+ghost use Rattle.vertex.specs.Represented.{sceneIn, indexList};
 ghost use Rattle.vertex.specs.Questions.{listNumber};
 ghost use Rattle.draw.specs.Triangles.{trianglesTo, wordsOf};
-ghost use Rattle.draw.specs.Corners.{cornerIndex, cornerWords, Stands};
 ghost use Rattle.draw.specs.Draw.{vertexAt, trianglesOf, answered, drawIn, Draws};
 
 // Writes the first `count` triangles.
