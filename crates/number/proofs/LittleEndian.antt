@@ -3,9 +3,10 @@ use mathlib.Core.Path.{_≡_, refl, sym, _∙_, ap}
 use mathlib.Core.List.{List, [], _∷_}
 use Prim.Native.Nat.{ℕ, zero, suc, _+_, _*_, _/_, _%_, _^_, _<_, _≤_}
 use native.Mathlib.Nat.{pow-succ', zero-div, div-one, mod-eq-of-lt, add-mul-div-left, add-mul-mod-self-left, div-div-eq-div-mul}
-use native.Mathlib.Nat.{div-eq-of-lt, zero-add, add-zero, add-suc, mul-le-mul-left}
+use native.Mathlib.Nat.{div-eq-of-lt, zero-add, add-zero, add-suc, add-comm, mul-suc, mul-le-mul-left}
 use native.Mathlib.Omega.{arith}
 use lib.ListN.{length, getD, take, drop}
+use lib.Pow.{pow-add}
 use lib.Seq.{drop-cons}
 use Rattle.number.specs.Numbers.{le}
 
@@ -18,6 +19,14 @@ Bytes (b ∷ bs) = (b < 256) × Bytes bs
 pub le-bound : (bs : List ℕ) → Bytes bs → le bs < 256 ^ length bs
 le-bound [] h = omega arith
 le-bound (b ∷ bs) h = rw (pow-succ' 256 (length bs)) (omega (arith, le-bound bs (h .1), mul-le-mul-left 256 (le-bound bs (h .1))))
+
+-- the same in bits
+byte-bits : (w : ℕ) → 256 ^ w ≡ 2 ^ (8 * w)
+byte-bits zero = refl
+byte-bits (suc w) = pow-succ' 256 w ∙ ap (λ (x : ℕ). 256 * x) (byte-bits w) ∙ sym (pow-add 2 8 (8 * w)) ∙ ap (λ (x : ℕ). 2 ^ x) (sym (mul-suc 8 w ∙ add-comm (8 * w) 8))
+
+pub le-bits : (bs : List ℕ) → Bytes bs → le bs < 2 ^ (8 * length bs)
+le-bits bs h = rw (sym (byte-bits (length bs))) (le-bound bs h)
 
 pub le-byte : (bs : List ℕ) → Bytes bs → (i : ℕ) → le bs / 256 ^ i % 256 ≡ getD bs i 0
 le-byte [] h i = rw (zero-div (256 ^ i))

@@ -4,9 +4,10 @@ use Prim.Native.Nat.{ℕ, zero, suc, _+_, _-_, _*_, _<_, _≤_, _^_}
 use native.Mathlib.Nat.{zero-add}
 use native.Mathlib.Omega.{arith}
 use mathlib.Core.Bool.{Bool, true, false, cond}
-use lib.Dec.{ltb}
+use lib.Dec.{ltb, le→leb}
 use borrow.Author.Tests.{ltb-true, ltb-false, lt-ltb, le-ltb}
 use lib.IntN.{ℤ, pos, negsuc, _+ℤ_, _-ℤ_}
+use lib.Signed.{_≤ℤ_}
 use mir.Syntax.{Width}
 use mir.Val.{SFits, toZ, ofZ, hbits}
 use mir.ValLaws.{toZ-ofZ}
@@ -18,6 +19,14 @@ twos-complement half n h = (λ l. simp (lt-ltb n half l), λ l. simp (le-ltb n h
   where
     less : (m n : ℕ) → n < m → negsuc (m - suc n) +ℤ pos m ≡ pos n
     less m n h = simp (le-ltb m (suc (m - suc n)) (omega arith)) (ap pos (omega arith))
+
+-- so it is from -half up to half - 1
+pub signed-range : (half n : ℕ) → n < 2 * half → (negsuc (half - 1) ≤ℤ signedAt half n) × (signedAt half n ≤ℤ pos (half - 1))
+signed-range half n h = go (ltb n half) refl
+  where
+    go : (b : Bool) → ltb n half ≡ b → (negsuc (half - 1) ≤ℤ cond b (pos n) (negsuc (2 * half - suc n))) × (cond b (pos n) (negsuc (2 * half - suc n)) ≤ℤ pos (half - 1))
+    go true e = (record { le = tt }, record { le = le→leb n (half - 1) (omega (arith, ltb-true n half e)) })
+    go false e = (record { le = le→leb (2 * half - suc n) (half - 1) (omega (arith, ltb-false n half e)) }, record { le = tt })
 
 minus-one : (k : ℕ) → negsuc 0 -ℤ pos k ≡ negsuc k
 minus-one zero = refl

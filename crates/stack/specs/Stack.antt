@@ -109,11 +109,3 @@ stackAnswer k s =
 
 abbrev pub freshStack : MatrixStack
 freshStack = record { current = record { entries = identity }; saved = replicate limit (record { entries = identity }); depth = 0 }
-
--- ---- for the code
-
--- the current matrix multiplied on the right by m, where the call's own number is n
-unfoldable pub multiplyAnswer : MatrixStack → ℕ → List Float → StackAnswer
-multiplyAnswer s n m =
-    cond (ltb limit (s .depth)) (answer 1 s)
-    (cond (eqb n 0) (answer 0 (record { current = record { entries = product (s .current .entries) m }; saved = s .saved; depth = s .depth })) (answer n s))

@@ -1,7 +1,7 @@
 // The matrix stack by value: a current matrix and the saved ones.
 ghost use mathlib.Core.Path.{_≡_};
 ghost use Rattle.number.specs.Decides.{Decides};
-ghost use Rattle.stack.specs.Stack.{Sound, MatrixCall, MatrixUpdate, stackAnswer, multiplyAnswer, freshStack};
+ghost use Rattle.stack.specs.Stack.{Sound, MatrixCall, stackAnswer, freshStack};
 
 // 16 f32, column by column.
 pub struct Matrix {
@@ -50,32 +50,6 @@ pub struct StackAnswer {
     pub stack: MatrixStack,
 }
 
-// The current matrix multiplied on the right by m, unless the call is refused with a number of its own.
-fn multiply_unless(number: u32, s: MatrixStack, m: [f32; 16]) -> StackAnswer
-    ensures { λ r. ⌜ r ≡ multiplyAnswer s number m ⌝ }
-{
-    let depth = s.depth;
-    if SAVED_LIMIT < depth {
-        return StackAnswer {
-            number: 1,
-            stack: s,
-        };
-    }
-    if number == 0 {
-        let current = s.current;
-        let left = current.entries;
-        let entries = matrix::multiply(left, m);
-        let product = Matrix { entries };
-        let mut out = s;
-        out.current = product;
-        return StackAnswer {
-            number: 0,
-            stack: out,
-        };
-    }
-    StackAnswer { number, stack: s }
-}
-
 impl MatrixStack {
     // A stack with no matrix saved.
     pub fn new() -> MatrixStack
@@ -96,70 +70,6 @@ impl MatrixStack {
         ensures { λ r. ⌜ Decides (Sound self) r ⌝ }
     {
         self.depth <= SAVED_LIMIT
-    }
-
-    pub fn load(self, m: [f32; 16]) -> StackAnswer
-        ensures { λ r. ⌜ r ≡ stackAnswer (MatrixCall.update (MatrixUpdate.load m)) self ⌝ }
-    {
-        let depth = self.depth;
-        if SAVED_LIMIT < depth {
-            return StackAnswer {
-                number: 1,
-                stack: self,
-            };
-        }
-        let current = Matrix { entries: m };
-        let mut out = self;
-        out.current = current;
-        StackAnswer {
-            number: 0,
-            stack: out,
-        }
-    }
-
-    pub fn load_identity(self) -> StackAnswer
-        ensures { λ r. ⌜ r ≡ stackAnswer (MatrixCall.update MatrixUpdate.loadIdentity) self ⌝ }
-    {
-        self.load(matrix::IDENTITY)
-    }
-
-    pub fn mult(self, m: [f32; 16]) -> StackAnswer
-        ensures { λ r. ⌜ r ≡ stackAnswer (MatrixCall.update (MatrixUpdate.mult m)) self ⌝ }
-    {
-        multiply_unless(0, self, m)
-    }
-
-    pub fn translate(self, x: f32, y: f32, z: f32) -> StackAnswer
-        ensures { λ r. ⌜ r ≡ stackAnswer (MatrixCall.update (MatrixUpdate.translate x y z)) self ⌝ }
-    {
-        multiply_unless(0, self, matrix::translate(x, y, z))
-    }
-
-    pub fn scale(self, x: f32, y: f32, z: f32) -> StackAnswer
-        ensures { λ r. ⌜ r ≡ stackAnswer (MatrixCall.update (MatrixUpdate.scale x y z)) self ⌝ }
-    {
-        multiply_unless(0, self, matrix::scale(x, y, z))
-    }
-
-    // From the cosine, the sine and the unit axis.
-    pub fn rotate(self, c: f32, s: f32, x: f32, y: f32, z: f32) -> StackAnswer
-        ensures { λ r. ⌜ r ≡ stackAnswer (MatrixCall.update (MatrixUpdate.rotate c s x y z)) self ⌝ }
-    {
-        multiply_unless(0, self, matrix::rotate(c, s, x, y, z))
-    }
-
-    pub fn frustum(self, l: f32, r: f32, b: f32, t: f32, n: f32, f: f32) -> StackAnswer
-        ensures { λ a. ⌜ a ≡ stackAnswer (MatrixCall.update (MatrixUpdate.frustum l r b t n f)) self ⌝ }
-    {
-        let number = matrix::frustum_number(l, r, b, t, n, f);
-        multiply_unless(number, self, matrix::frustum(l, r, b, t, n, f))
-    }
-
-    pub fn ortho(self, l: f32, r: f32, b: f32, t: f32, n: f32, f: f32) -> StackAnswer
-        ensures { λ a. ⌜ a ≡ stackAnswer (MatrixCall.update (MatrixUpdate.ortho l r b t n f)) self ⌝ }
-    {
-        let number = matrix::ortho_number(l, r, b, t, n, f);
-        multiply_unless(number, self, matrix::ortho(l, r, b, t, n, f))
     }
 
     // Saves a copy of the current matrix.
