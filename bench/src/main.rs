@@ -39,10 +39,45 @@ fn main() {
     if let Some(side) = word("--side") {
         return profile(&plan, &side, word("--times").map_or(100, |n| n.parse().unwrap()));
     }
-    draws(&plan);
+    if words.iter().any(|w| w == "--own") {
+        return own(&Plan { rounds: 5, slice: Duration::from_millis(4), ..plan });
+    }
+    let below = draws(&plan);
     floors(&plan);
     states(&plan);
     other_states(&plan);
+    if !smoke {
+        tell(&below);
+    }
+}
+
+/// The end of a full run: what is below its bar (mix.rs), with status 1 if anything is. A short run has no bars.
+fn tell(below: &[String]) {
+    println!("\n## Bars\n");
+    below.iter().for_each(|row| println!("- {row}"));
+    match below.len() {
+        0 => println!("Every row meets its bar."),
+        n => println!("\n{n} below their bar."),
+    }
+    std::process::exit(!below.is_empty() as i32);
+}
+
+/// This library's own times, a line for each size of a row, for bench/turns.
+fn own(plan: &Plan) {
+    for mix in chosen(plan) {
+        for &size in &mix.sizes {
+            let work = mix.work(size);
+            let ns = alone(&mut Ours::new(&work, 51 * work.last), plan, || ());
+            println!("{}; {size}\t{:.3}", mix.name, ns / work.triangles as f64);
+        }
+    }
+    let stated = state_calls().into_iter().chain(other_calls());
+    for (name, calls) in stated.filter(|(name, _)| plan.is_chosen(name)) {
+        let again = vec![calls; LIST].concat();
+        let each = again.len() as f64;
+        let ns = alone(&mut Ours::new(&stored_work(again), 0), plan, || ());
+        println!("{name}\t{:.3}", ns / each);
+    }
 }
 
 /// One side alone, for a profiler: the draws of 100 triangles and the state calls.
@@ -73,13 +108,16 @@ fn chosen(plan: &Plan) -> Vec<mix::Mix> {
 
 // ---- draws ----
 
-fn draws(plan: &Plan) {
+/// Prints the table, and gives the rows that are below their bar.
+fn draws(plan: &Plan) -> Vec<String> {
     println!("## Draws, ns a triangle: Rust / ours = ratio\n");
     println!("| mix | 100 triangles | 10,000 | 100,000 in parts | growth |\n|---|---|---|---|---|");
     let mut least = [f64::MAX; 2];
+    let mut below = Vec::new();
     for mix in chosen(plan) {
         let mut cells = Vec::new();
         let mut ns = Vec::new();
+        let bar = mix.bar();
         for &size in mix.sizes.iter().take(plan.sizes) {
             let work = mix.work(size);
             let (theirs, ours) = both(&work, plan, || ());
@@ -88,15 +126,22 @@ fn draws(plan: &Plan) {
             let kind = &mut least[mix.common as usize];
             *kind = kind.min(ratio);
             ns.push(ours / each);
+            if ratio < bar {
+                below.push(format!("{}, {size}: {ratio:.2}, bar {bar:.1}", mix.name));
+            }
             let size = if mix.sizes.len() == 3 { String::new() } else { format!("{size}: ") };
             cells.push(format!("{size}{:.1} / {:.1} = {ratio:.2}", theirs / each, ours / each));
         }
-        let most = ns.iter().fold(0.0f64, |a, b| a.max(*b));
+        let growth = ns.iter().fold(0.0f64, |a, b| a.max(*b)) / ns[0];
+        if growth > mix::GROWTH {
+            below.push(format!("{}: growth {growth:.2}, bar {:.1}", mix.name, mix::GROWTH));
+        }
         let name = if mix.common { format!("**{}**", mix.name) } else { mix.name.clone() };
         cells.resize(3, String::new());
-        println!("| {name} | {} | {:.2} |", cells.join(" | "), most / ns[0]);
+        println!("| {name} | {} | {:.2} |", cells.join(" | "), growth);
     }
     println!("\nLeast ratio: {:.2} of the common mixes (bold), {:.2} of the others. Growth: the dearest size against 100 triangles, ours.\n", least[1], least[0]);
+    below
 }
 
 /// Nanoseconds of one pass over `again`, the Rust's and ours; both outputs are compared first. Each round does `beside` too.
@@ -115,6 +160,18 @@ fn both(work: &Work, plan: &Plan, mut beside: impl FnMut()) -> (f64, f64) {
         beside();
     }
     (t, (o - start) / times[1] as f64)
+}
+
+/// Nanoseconds of one pass of the library over `again`.
+fn alone(ours: &mut Ours, plan: &Plan, mut beside: impl FnMut()) -> f64 {
+    let n = count(plan, |n| ours.run(n));
+    let (mut start, mut best) = (f64::MAX, f64::MAX);
+    for _ in 0..plan.rounds {
+        start = start.min(time(|| ours.run(0)));
+        best = best.min(time(|| ours.run(n)));
+        beside();
+    }
+    (best - start) / n as f64
 }
 
 /// Are the words of the last draw the same? Any NaN equals any.
@@ -223,6 +280,13 @@ fn state_work(again: Vec<Call>) -> Work {
     Work { first, again, guest: vec![0; 16], triangles: 0, last: 0 }
 }
 
+/// The same with 4,096 bytes in the buffer, for a buffer_sub_data of them.
+fn stored_work(again: Vec<Call>) -> Work {
+    let mut work = state_work(again);
+    work.first.push(Call::Data(ARRAY, vec![7; 4096]));
+    work
+}
+
 fn states(plan: &Plan) {
     println!("## State calls, ns a call\n");
     println!("| call | Rust | ours | copies of a context in and out |\n|---|---|---|---|");
@@ -239,12 +303,12 @@ fn states(plan: &Plan) {
     }
 }
 
-/// Every other state call, by its code and words (crates/records/specs/Encoding.antt).
-fn other_calls() -> Vec<(&'static str, Vec<(u32, Vec<u32>)>)> {
+/// Every other state call, by its code and words (crates/list_records/specs/Encoding.antt).
+fn other_calls() -> Vec<(&'static str, Vec<Call>)> {
     let f = |numbers: &[f32]| numbers.iter().map(|x| x.to_bits()).collect::<Vec<u32>>();
     let unit: Vec<u32> = (0..16).map(|i| f32::to_bits((i % 5 == 0) as u32 as f32)).collect();
-    let one = |code: u32, words: Vec<u32>| vec![(code, words)];
-    let made_and_deleted = vec![(0x21, vec![ELEMENTS, 2]), (0x22, vec![2])];
+    let one = |code: u32, words: Vec<u32>| vec![Call::Coded(code, words)];
+    let made_and_deleted = [one(0x21, vec![ELEMENTS, 2]), one(0x22, vec![2])].concat();
     vec![
         ("set_matrix_mode", one(0x10, vec![0x1700])),
         ("set_matrix_mode, refused", one(0x10, vec![0])),
@@ -290,21 +354,13 @@ fn other_states(plan: &Plan) {
     let times = count(plan, |n| copies.run(n));
     let mut most = 0.0f64;
     for (name, calls) in other_calls().into_iter().filter(|(name, _)| plan.is_chosen(name)) {
-        let calls = calls.into_iter().map(|(code, words)| Call::Coded(code, words));
-        let again = vec![calls.collect::<Vec<Call>>(); LIST].concat();
+        let again = vec![calls; LIST].concat();
         let each = again.len() as f64;
-        let mut work = state_work(again);
-        work.first.push(Call::Data(ARRAY, vec![7; 4096]));
-        let mut ours = Ours::new(&work, 0);
+        let mut ours = Ours::new(&stored_work(again), 0);
         ours.check();
-        let n = count(plan, |n| ours.run(n));
-        let (mut start, mut best, mut copy) = (f64::MAX, f64::MAX, f64::MAX);
-        for _ in 0..plan.rounds {
-            start = start.min(time(|| ours.run(0)));
-            best = best.min(time(|| ours.run(n)));
-            copy = copy.min(time(|| copies.run(times)) / times as f64);
-        }
-        let ns = (best - start) / n as f64 / each;
+        let mut copy = f64::MAX;
+        let beside = || copy = copy.min(time(|| copies.run(times)) / times as f64);
+        let ns = alone(&mut ours, plan, beside) / each;
         most = most.max(ns / copy);
         println!("| {name} | {ns:.1} | {:.2} |", ns / copy);
     }

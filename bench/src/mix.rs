@@ -16,7 +16,9 @@ pub struct Mix {
     pub mode: u32,
     pub source: Source,
     pub position: u32,
-    pub color: bool,
+    /// The type of the colour array, if there is one.
+    pub color: Option<u32>,
+    pub texcoord: u32,
     pub stages: u32,
     /// An indexed mesh in which each inner vertex is used six times.
     pub shared: bool,
@@ -25,6 +27,9 @@ pub struct Mix {
     pub common: bool,
     pub sizes: Vec<usize>,
 }
+
+/// The most that a triangle of a larger draw may take, against one of 100.
+pub const GROWTH: f64 = 1.1;
 
 /// The most triangles of one draw; more are drawn in parts.
 pub const PART: usize = 10_000;
@@ -97,6 +102,15 @@ impl Mix {
         list
     }
 
+    /// The least ratio to the Rust that a full run asks of each size.
+    pub fn bar(&self) -> f64 {
+        match self {
+            Mix { texcoord: SHORT | FIXED, .. } | Mix { color: Some(FLOAT), .. } => 1.5,
+            Mix { mode: 4, shared: false, .. } => 6.0,
+            _ => 2.2,
+        }
+    }
+
     /// The calls and bytes of this mix with so many triangles.
     pub fn work(&self, triangles: usize) -> Work {
         let part = triangles.min(PART);
@@ -167,17 +181,18 @@ impl Maker<'_> {
         if self.mix.buffered {
             self.first.append(&mut calls);
         }
-        if self.mix.color {
-            let at = self.place(numbers.array(UBYTE, 4, vertices));
-            calls.extend([Call::ColorPointer(4, UBYTE, 0, at), Call::ClientState(0x8076, true)]);
+        if let Some(ty) = self.mix.color {
+            let at = self.place(numbers.array(ty, 4, vertices));
+            calls.extend([Call::ColorPointer(4, ty, 0, at), Call::ClientState(0x8076, true)]);
             if self.mix.buffered {
                 self.first.append(&mut calls);
             }
         }
         for unit in 0..self.mix.stages {
-            let at = self.place(numbers.array(FLOAT, 2, vertices));
+            let ty = self.mix.texcoord;
+            let at = self.place(numbers.array(ty, 2, vertices));
             calls.push(Call::ClientUnit(unit));
-            calls.extend([Call::TexcoordPointer(2, FLOAT, 0, at), Call::ClientState(0x8078, true)]);
+            calls.extend([Call::TexcoordPointer(2, ty, 0, at), Call::ClientState(0x8078, true)]);
             if self.mix.buffered {
                 self.first.append(&mut calls);
             }
@@ -209,7 +224,8 @@ pub fn all() -> Vec<Mix> {
         mode: 4,
         source: Source::Lent,
         position: FLOAT,
-        color: true,
+        color: Some(UBYTE),
+        texcoord: FLOAT,
         stages: 0,
         shared: false,
         buffered: false,
@@ -248,13 +264,19 @@ pub fn all() -> Vec<Mix> {
     let rare = Mix { common: false, ..one.clone() };
     add("fixed, byte colours, 1 stage", Mix { position: FIXED, ..rare.clone() });
     add("byte, byte colours, 1 stage", Mix { position: BYTE, ..rare.clone() });
-    add("f32, no colour array, 0 stages", Mix { color: false, stages: 0, ..rare.clone() });
-    add("f32, no colour array, 1 stage", Mix { color: false, ..rare.clone() });
+    add("f32, no colour array, 0 stages", Mix { color: None, stages: 0, ..rare.clone() });
+    add("f32, no colour array, 1 stage", Mix { color: None, ..rare.clone() });
     add("f32, byte colours, 4 stages, unshared", Mix { stages: 4, ..rare.clone() });
     add("f32, byte colours, 4 stages, six times", Mix { stages: 4, shared: true, ..rare.clone() });
     add(
         "short, byte colours, 4 stages, strip",
         Mix { position: SHORT, stages: 4, mode: 5, ..rare.clone() },
     );
+    let mesh = Mix { shared: true, ..rare };
+    let short = Mix { texcoord: SHORT, ..mesh.clone() };
+    add("f32, byte colours, 1 stage of short coordinates, six times", short);
+    let fixed = Mix { texcoord: FIXED, ..mesh.clone() };
+    add("f32, byte colours, 1 stage of fixed coordinates, six times", fixed);
+    add("f32, f32 colours, 1 stage, six times", Mix { color: Some(FLOAT), ..mesh });
     mixes
 }

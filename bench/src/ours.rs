@@ -1,4 +1,4 @@
-//! The library: calls as words (crates/records/specs/Encoding.antt), made by `beonasul_repeat`.
+//! The library: calls as words (crates/list_records/specs/Encoding.antt), made by `beonasul_repeat`.
 
 use crate::call::{Call, Draw, Indices, Work, BASE};
 
