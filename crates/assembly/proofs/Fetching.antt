@@ -16,7 +16,8 @@ use Rattle.fetch.specs.declared.Vec4.{Vec4}
 use Rattle.arrays.specs.Attributes.{noPair}
 use Rattle.arrays.specs.declared.Pair.{Pair}
 use Rattle.vertex.specs.Scene.{Scene}
-use Rattle.vertex.specs.Vertex.{elementOf, positionOf, objectPosition, colorOf, componentsOr, origin, hasStage, pairFrom, transformedPair, stagePair, pairOf, pairWords, texcoordsOf, vertexOf}
+use Rattle.vertex.specs.Vertex.{elementOf, positionOf, objectPosition, colorOf, componentsOr, origin, hasStage, pairFrom, transformedPair, stagePair, pairOf, pairWords}
+use Rattle.vertex.specs.Vertex.{texcoordsOf, vertexOf}
 use Rattle.vertex.specs.Questions.{positionAt}
 use Rattle.vertex.specs.declared.Vertex.{Vertex}
 use Rattle.assembly.specs.Elements.{locationOf, Locates, PreparesFor, unitArray}

@@ -22,7 +22,8 @@ ghost use Rattle.fetch.specs.Decode.{componentBytes, unsignedComponent, signedC
 ghost use Rattle.fetch.specs.Fetch.{lastAddress, positionNumber};
 ghost use Rattle.fetch.specs.Places.{partSource};
 ghost use Rattle.vertex.specs.Represented.{sceneIn, indexList};
-ghost use Rattle.vertex.specs.Vertex.{elementOf, objectPosition, colorOf, componentsOr, origin, hasStage, pairFrom, transformedPair, pairOf, pairWords, texcoordsOf, vertexOf, four, vertexWords};
+ghost use Rattle.vertex.specs.Vertex.{elementOf, objectPosition, colorOf, componentsOr, origin, hasStage, pairFrom, transformedPair};
+ghost use Rattle.vertex.specs.Vertex.{pairOf, pairWords, texcoordsOf, vertexOf, four, vertexWords};
 ghost use Rattle.vertex.specs.Questions.{positionAt, fails, hasVertices, listNumber};
 ghost use Rattle.assembly.specs.Elements.{OneTwoFour, stepOf, missingAt, locationOf, Locates, Prepares, PreparesFor, unitArray, Plans};
 ghost use Rattle.assembly.specs.Corners.{cornerIndex, cornersWritten, cornerWords};

@@ -22,7 +22,8 @@ pair-at-requires-4 c κs = (refl, c .before .before .before .before .before .bef
 returns : tie.Need-returns
 returns c =
     let start = c .before .before .before .before .before .before .before .before .before .before in
-    texcoords-are (sceneIn (start .args .s) (now (start .args .store)) (now (start .args .guest))) (start .args .index) (c .before .before .before .pair-at .ensures) (c .before .before .pair-at2 .ensures) (c .before .pair-at3 .ensures)
+    let s = sceneIn (start .args .s) (now (start .args .store)) (now (start .args .guest)) in
+    texcoords-are s (start .args .index) (c .before .before .before .pair-at .ensures) (c .before .before .pair-at2 .ensures) (c .before .pair-at3 .ensures)
     (c .pair-at4 .ensures)
 
 pub pairs-at-spec : {M : Type 1} → statement M
