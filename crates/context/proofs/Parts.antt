@@ -12,7 +12,8 @@ use Rattle.stack.specs.Stack as stack
 use Rattle.stack.specs.Stack.{limit, MatrixUpdate, updateNumber, update, push, pop, answer, changed, stackAnswer}
 use Rattle.stack.specs.declared.MatrixStack.{MatrixStack}
 use Rattle.buffers.specs.Objects as buffer
-use Rattle.buffers.specs.Objects.{nameAt, lenAt, slotOf, slotBytes, storeBytes, Bindable, SlotSound}
+use Rattle.buffers.specs.Objects.{nameAt, lenAt, slotOf, slotBytes, storeBytes, Bindable}
+use Rattle.buffers.specs.ObjectsCode.{SlotSound}
 use Rattle.buffers.specs.declared.Slot.{Slot}
 use Rattle.buffers.specs.declared.Buffers.{Buffers}
 use Rattle.buffers.proofs.Bounds.{lt-or-ge, same?}
