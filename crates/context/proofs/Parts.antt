@@ -25,8 +25,8 @@ use Rattle.context.specs.declared.Context.{Context}
 use Rattle.context.specs.State.{stackAt, view, Sound}
 use Rattle.context.specs.Calls.{buffer, array, borrowsStore, Call, matrix, mode, object, attribute, pipeline, takeError, draw}
 use Rattle.context.specs.Rules.{step}
-use Rattle.context.specs.Contract.{putStack, stacksAfter, currentsOf, withCurrent, putCurrents, putStacks, putMode, putBuffers, putArrays}
-use Rattle.context.specs.Contract.{putAttributes, putPipeline, putError, Valid, Follows, Did}
+use Rattle.context.specs.Contract.{putStack, putBuffers, putError, stacksAfter, Valid, Follows, Did}
+use Rattle.context.specs.ContractCode.{currentsOf, withCurrent, putCurrents, putStacks, putMode, putArrays, putAttributes, putPipeline}
 
 -- ---- a call is valid or it is not
 
