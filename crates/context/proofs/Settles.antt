@@ -72,9 +72,11 @@ module _ {call : Call} {c c1 c1′ : Context} {s s1 s1′ : List ℕ} {n n′ : 
         live = live-agree f f′;
         refusal = λ h.
             let r = f .refusal h in
-            let r′ = f′ .refusal (λ e. h (number ∙ e)) in
-            (r .1 ∙ sym (r′ .1), λ unmade. kept-but-noted call c s n unmade (r .0) ∙ ap (λ (x : ℕ). noted x c) number
-            ∙ sym (kept-but-noted call c s n′ (λ m. unmade (m .0, number ∙ m .1)) (r′ .0)));
+            let r′ = f′ .refusal (λ e. h (number ∙ e)) in (
+              r .1 ∙ sym (r′ .1),
+              λ unmade. kept-but-noted call c s n unmade (r .0) ∙ ap (λ (x : ℕ). noted x c) number
+                  ∙ sym (kept-but-noted call c s n′ (λ m. unmade (m .0, number ∙ m .1)) (r′ .0)),
+            );
         size = d .size ∙ sym (d′ .size);
       }
 

@@ -16,9 +16,9 @@ use Rattle.context.specs.Rules.{errorCode}
 use Rattle.context.specs.Contract.{putBuffers, StillMakes, Did, Drew}
 
 -- Two answers to one call, on context c0 and a store that holds s0, agree: in the number, in the state, in every place of the stacks
--- and in every part of the context but the slots; after any call but a buffer call in these too. After a buffer call they agree in
--- the length of a slot that both leave free, and in the length of a live name's slot. A refused call leaves the same store and,
--- unless it is a bind that still makes its name, the same context.
+-- and in every part of the context but the slots; after any call but a buffer call in these too. Of the slots they agree in the
+-- length of each that both leave free and, with a store of 65,536 bytes, in the length beside each live name. A refused call leaves
+-- the same store and, unless it is a bind that still makes its name, the same context.
 pub record Agree (call : Call) (c0 : Context) (s0 : List ℕ) (n n′ : ℕ) (c c′ : Context) (s s′ : List ℕ) : Type 0 where
   pub number : n ≡ n′
   pub state : view c s ≡ view c′ s′
@@ -37,7 +37,7 @@ pub record Settles : Type 0 where
   -- and of one draw, on the same output: the count and every f32 of the output
   pub draws : {d : DrawCall} {c : Context} {s : List ℕ} {r r′ : Drawn} {out out1 out1′ : List Float} → Drew d c s r out out1 → Drew d c s r′ out out1′
       → (r .count ≡ r′ .count) × (out1 ≡ out1′)
-  -- what two entries promise besides, of gen's first name and of take_error's code
+  -- and what two entries promise besides: gen's first name, and take_error's code
   pub first : {m : ℕ} {c c1 c1′ : Context} {s s1 s1′ : List ℕ} {n n′ : ℕ} → Did (object (buffer (gen m))) c s n c1 s1 → Did (object (buffer (gen m))) c s n′ c1′ s1′
       → genFirst n (c .buffers .next) m ≡ genFirst n′ (c .buffers .next) m
   pub code : {c c1 c1′ : Context} {s s1 s1′ : List ℕ} {n n′ : ℕ} → Did takeError c s n c1 s1 → Did takeError c s n′ c1′ s1′
