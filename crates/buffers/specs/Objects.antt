@@ -138,7 +138,7 @@ answer n o = record { number = n; after = o }
 
 -- The contract of a call that borrows no store, by the rule for its objects. Unsound buffers are refused with 1 and stay. Else
 -- number and objects are the rule's over any store, the buffers stay sound, and a free slot's length is settled. A refusal whose
--- rule leaves the objects changes nothing: only bind at a refused target, 0x0500, has another rule, and that for a new name.
+-- rule leaves the objects changes nothing; the one other refusal is bind's at a refused target, 0x0500, which makes a new name.
 pub record Answers (b : Buffers) (rule : Objects → Answer) (number : ℕ) (r : Buffers) : Type 0 where
   pub unsound : (Sound b → ⊥) → (number ≡ 1) × (r ≡ b)
   pub ruled : Sound b → (s : List ℕ) → answer number (objects r s) ≡ rule (objects b s)

@@ -16,7 +16,8 @@ use Rattle.buffers.proofs.delete_buffers.Statement.{statement}
 use Rattle.buffers.proofs.delete_buffers.Tie as tie
 
 abbrev Inv-loop : tie.InvT-loop
-Inv-loop names out₀ i₀ out i = (i ≤ length names) × ((s : List ℕ) → deleteNames (drop i names) (objects out s) ≡ deleteNames names (objects out₀ s)) × Sound out × Freed (out₀ .slots) (out .slots)
+Inv-loop names out₀ i₀ out i =
+    (i ≤ length names) × ((s : List ℕ) → deleteNames (drop i names) (objects out s) ≡ deleteNames names (objects out₀ s)) × Sound out × Freed (out₀ .slots) (out .slots)
 
 abbrev μ-loop : tie.MeasureT-loop
 μ-loop names out₀ i₀ out i = length names - i
