@@ -5,9 +5,11 @@ use mathlib.Core.List.{List, []}
 use mathlib.Core.Path.{_≡_, sym, ap, _∙_}
 use native.Mathlib.Omega.{arith}
 use borrow.Author.Tests.{lt-ltb, le-ltb, ne-eqb}
-use Rattle.buffers.specs.Objects.{Objects, objects, liveNames, named, make, genNames, genBuffers, roomFor, Made, Sound, answer}
+use Rattle.buffers.specs.Objects.{Objects, objects, liveNames, named, make, genNames, genBuffers, roomFor, Sound, answer}
+use Rattle.buffers.specs.ObjectsCode.{Filled, Made}
 use Rattle.buffers.specs.declared.Buffers.{Buffers}
 use Rattle.buffers.proofs.Slots.{contents-none}
+use Rattle.buffers.proofs.Free.{filled-then}
 use Rattle.buffers.proofs.Laws.{live-next}
 
 -- `left` of the n names are still to be made
@@ -16,6 +18,7 @@ pub record Left (b : Buffers) (n : ℕ) (out : Buffers) (left : ℕ) : Type 0 wh
   pub sound : Sound out
   pub live : (s : List ℕ) → liveNames (objects out s) + left ≤ 16
   pub next : out .next + left ≤ 4294967295
+  pub slots : Filled (b .slots) (out .slots)
 
 -- the next name is new, so that it is made
 next-made : (b : Buffers) → Sound b → (s : List ℕ) (ok : Bool) → ok ≡ roomFor (objects b s) (b .next) → liveNames (objects b s) < 16
@@ -38,6 +41,7 @@ left-less b n out left l more ok m made =
       sound = made .sound;
       live = λ s. omega (arith, ap liveNames (after s), live-next (objects out s), l .live s);
       next = omega (arith, ap (λ (o : Objects). o .next) (after []), l .next);
+      slots = filled-then (l .slots) (made .slots);
     }
   where
     one : left ≡ suc (left - 1)

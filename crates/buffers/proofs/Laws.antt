@@ -9,7 +9,8 @@ use native.Mathlib.Omega.{arith}
 use lib.Dec.{eqb, ltb}
 use borrow.Author.Tests.{ltb-true, lt-ltb, not-true, eq-eqb, ne-eqb}
 use Rattle.buffers.specs.Bounded.{count}
-use Rattle.buffers.specs.Objects.{Objects, objects, absent, nameAt, slotOf, contentsOf, liveIn, liveNames, make, answer, genNames, genBuffers, deleteName, roomFor, Sound}
+use Rattle.buffers.specs.Objects.{Objects, objects, absent, nameAt, slotOf, contentsOf, liveNames, make, answer, genNames, genBuffers, deleteName, roomFor, Sound}
+use Rattle.buffers.specs.ObjectsCode.{liveIn}
 use Rattle.buffers.specs.declared.Buffers.{Buffers}
 use Rattle.buffers.proofs.Bounds.{never, same?, count-ext, count-more, count-le, count-suc, count-image}
 use Rattle.buffers.proofs.Slots.{slot-cases, contents-none, contents-zero, contents-at}

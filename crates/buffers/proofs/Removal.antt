@@ -10,20 +10,22 @@ use lib.Dec.{eqb}
 use lib.ListN.{length, getD, drop, set, drop-of-length-le}
 use lib.Seq.{drop-cons}
 use borrow.Author.Tests.{eq-eqb, ne-eqb}
-use Rattle.buffers.specs.Objects.{Objects, freeSlot, nameAt, slotOf, Bindable, Sound, deleteName, deleteNames, Steps}
+use Rattle.buffers.specs.Objects.{Objects, freeSlot, nameAt, slotOf, Bindable, Sound, deleteName, deleteNames}
+use Rattle.buffers.specs.ObjectsCode.{Steps}
 use Rattle.buffers.specs.declared.Buffers.{Buffers}
 use Rattle.buffers.proofs.Bounds.{same?}
 use Rattle.buffers.proofs.Slots.{slot-found, slot-unknown, contents-none, contents-some, contents-free, bindable-set, sound-set}
+use Rattle.buffers.proofs.Free.{freed-same, freed-set}
 
 module _ (b : Buffers) (n : ℕ) (sound : Sound b) where
   pub skip-zero : n ≡ 0 → Steps b (λ o. deleteName o n) b
   unfolding deleteName
-  skip-zero z = record { state = λ s. simp (eq-eqb n 0 z); sound = sound }
+  skip-zero z = record { state = λ s. simp (eq-eqb n 0 z); sound = sound; slots = freed-same }
 
   module _ (z : n ≡ 0 → ⊥) (k : ℕ) (found : k ≡ slotOf (b .slots) n) where
     pub skip-unknown : 16 ≤ k → Steps b (λ o. deleteName o n) b
     unfolding deleteName
-    skip-unknown h = record { state = λ s. simp (ne-eqb n 0 z, contents-none (b .slots) s n (slot-unknown (b .slots) n (omega arith))); sound = sound }
+    skip-unknown h = record { state = λ s. simp (ne-eqb n 0 z, contents-none (b .slots) s n (slot-unknown (b .slots) n (omega arith))); sound = sound; slots = freed-same }
 
     module _ (sized : length (b .slots) ≡ 16) (within : k < 16) where
       old : nameAt (b .slots) k ≡ n
@@ -51,6 +53,7 @@ module _ (b : Buffers) (n : ℕ) (sound : Sound b) where
                 ∙ simp (ne-eqb n 0 z, contents-some (b .slots) s n pos (omega arith));
             sound = sound-set b sound k freeSlot sized within (λ j h q p e. omega arith) (omega arith) (b .next) x y (omega arith) (sound .started)
                 (rw ex (bindable-free (b .«array_buffer») (sound .array-live))) (rw ey (bindable-free (b .«element_buffer») (sound .element-live)));
+            slots = freed-set (b .slots) k sized within (omega (arith, old, pos));
           }
 
 -- names deleted one by one

@@ -11,7 +11,8 @@ use lib.ListN.{length, getD, take, drop, set}
 use lib.Seq.{getD-set-same, getD-set-other}
 use borrow.Author.Tests.{eqb-true, eqb-false, lt-ltb, le-ltb, eq-eqb, ne-eqb}
 use Rattle.buffers.specs.Bounded.{count}
-use Rattle.buffers.specs.Objects.{freeSlot, nameAt, slotOf, bytesAt, contentsOf, liveIn, Live, Bindable, Sound}
+use Rattle.buffers.specs.Objects.{freeSlot, nameAt, slotOf, bytesAt, contentsOf, Live, Bindable, Sound}
+use Rattle.buffers.specs.ObjectsCode.{liveIn}
 use Rattle.buffers.specs.declared.Slot.{Slot}
 use Rattle.buffers.specs.declared.Buffers.{Buffers}
 use Rattle.buffers.proofs.Bounds.{same?, first-cases, count-short, count-full}

@@ -11,24 +11,27 @@ use lib.ListN.{length, getD, take, drop, set, length-take, length-drop}
 use lib.Seq.{set-getD}
 use borrow.Author.Tests.{lt-ltb, le-ltb, ne-eqb}
 use Rattle.number.specs.Bytes.{overwrite}
-use Rattle.buffers.specs.Objects.{Objects, objects, Answer, answer, AnswersIn, Bindable, Sound, slotOf, nameAt, lenAt, freeSlot, bytesAt, contentsOf, put, padded}
-use Rattle.buffers.specs.Objects.{boundAt, isTarget, bufferData, bufferSubData, bytesOf, withSlot}
+use Rattle.buffers.specs.Objects.{Objects, objects, Answer, answer, AnswersIn, FreeSlots, Bindable, Sound, slotOf, nameAt, lenAt, freeSlot, bytesAt, contentsOf, put, padded}
+use Rattle.buffers.specs.Objects.{boundAt, isTarget, bufferData, bufferSubData, bytesOf}
+use Rattle.buffers.specs.ObjectsCode.{withSlot}
 use Rattle.buffers.specs.declared.Slot.{Slot}
 use Rattle.buffers.specs.declared.Buffers.{Buffers}
 use Rattle.buffers.proofs.Bounds.{lt-or-ge}
 use Rattle.buffers.proofs.Slots.{slot, slot-cases, slot-found, contents-some, contents-put, bindable-set, sound-set}
+use Rattle.buffers.proofs.Free.{free-same, filled-free, filled-set}
 use Rattle.buffers.proofs.Bytes.{length-padded, length-overwrite, padded-all, apart, written, within}
 
 module _ (b : Buffers) (s : List ℕ) (rule : Objects → Answer) where
   pub in-invalid : (Sound b → length s ≡ 65536 → ⊥) → AnswersIn b s rule 1 b s
-  in-invalid un = record { invalid = λ q. refl; ruled = λ p q. absurd (un p q); kept = λ p. p; size = refl; stays = λ q. (refl, refl) }
+  in-invalid un = record { invalid = λ q. refl; ruled = λ p q. absurd (un p q); kept = λ p. p; free = free-same; size = refl; stays = λ q. (refl, refl) }
 
   module _ (sound : Sound b) (sized : length s ≡ 65536) where
     pub in-same : (number : ℕ) → answer number (objects b s) ≡ rule (objects b s) → AnswersIn b s rule number b s
-    in-same number e = record { invalid = λ q. absurd (q sound sized); ruled = λ p q. e; kept = λ p. p; size = refl; stays = λ q. (refl, refl) }
+    in-same number e = record { invalid = λ q. absurd (q sound sized); ruled = λ p q. e; kept = λ p. p; free = free-same; size = refl; stays = λ q. (refl, refl) }
 
-    pub in-done : (r : Buffers) (s′ : List ℕ) → length s′ ≡ length s → answer 0 (objects r s′) ≡ rule (objects b s) → Sound r → AnswersIn b s rule 0 r s′
-    in-done r s′ len e k = record { invalid = λ q. absurd (q sound sized); ruled = λ p q. e; kept = λ p. k; size = len; stays = λ q. absurd (q refl) }
+    pub in-done : (r : Buffers) (s′ : List ℕ) → length s′ ≡ length s → answer 0 (objects r s′) ≡ rule (objects b s) → Sound r
+        → FreeSlots (b .slots) (r .slots) → AnswersIn b s rule 0 r s′
+    in-done r s′ len e k f = record { invalid = λ q. absurd (q sound sized); ruled = λ p q. e; kept = λ p. k; free = f; size = len; stays = λ q. absurd (q refl) }
 
 -- a name that is bound and not 0 has a slot
 pub bound-slot : (b : Buffers) → Sound b → (s : List ℕ) (t n : ℕ) → n ≡ boundAt (objects b s) t → (n ≡ 0 → ⊥) → slotOf (b .slots) n < 16
@@ -85,7 +88,8 @@ module _ (b : Buffers) (s : List ℕ) (t n : ℕ) (sound : Sound b) (slots16 : l
       (ap (answer 0) (objects-put (slot n size) refl (4096 * k) (padded size bytes) (omega arith) (omega (arith, length-padded size bytes)) ∙ ap (put (objects b s) n) here)
       ∙ simp (target, sym bound, ne-eqb n 0 z, le-ltb 4096 size small))
       (sound-set b sound k (slot n size) slots16 in-slots only small (b .next) _ _ (omega arith) (omega (arith, old, sound .below k in-slots))
-      (still (b .«array_buffer») (sound .array-live)) (still (b .«element_buffer») (sound .element-live))))
+      (still (b .«array_buffer») (sound .array-live)) (still (b .«element_buffer») (sound .element-live)))
+      (filled-free (filled-set (b .slots) k (slot n size) slots16 in-slots (omega (arith, z)))))
     where
       fits : 4096 * k + length (padded size bytes) ≤ length s
       fits = omega (arith, in-slots, length-padded size bytes)
@@ -118,7 +122,7 @@ module _ (b : Buffers) (s : List ℕ) (t n : ℕ) (sound : Sound b) (slots16 : l
         rw (wrote, padded-all)
         (in-done b s _ sound sized b _ (length-overwrite s (4096 * k + off) bytes (omega (arith, in-slots, slot-small)))
         (ap (answer 0) (replaced ∙ ap (put (objects b s) n) inside) ∙ simp (sym bound, ne-eqb n 0 z, length-named, le-ltb len (off + length bytes) h))
-        sound)
+        sound free-same)
       where
         after : List ℕ
         after = overwrite s (4096 * k + off) bytes

@@ -5,7 +5,7 @@ use mathlib.Core.List.{List, [], _∷_, _++_}
 use mathlib.Core.Logic.{_⊎_}
 use mathlib.Core.Option.{Option, some, none}
 use mathlib.Core.Path.{_≡_}
-use lib.ListN.{length, getD, take, drop, set, replicate}
+use lib.ListN.{length, getD, take, drop, replicate}
 use lib.Dec.{eqb, ltb, leb}
 use Rattle.number.specs.Decides.{Decides}
 use Rattle.number.specs.Bytes.{overwrite}
@@ -110,10 +110,21 @@ pub record SoundIs (b : Buffers) (r : Bool) : Type 0 where
   pub decides : Decides (Sound b) r
   pub slots : length (b .slots) ≡ slotCount
 
--- fresh buffers are sound, and their objects are fresh over any store
+-- fresh buffers are sound, their objects are fresh over any store, and every length is 0
 pub record IsFresh (r : Buffers) : Type 0 where
   pub sound : Sound r
   pub state : (s : List ℕ) → objects r s ≡ freshObjects
+  pub lengths : (k : ℕ) → k < slotCount → lenAt (r .slots) k ≡ 0
+
+-- ---- free slots
+
+-- the length in a slot that a call leaves free: as it was where the slot was free before, 0 where the call freed it
+abbrev pub freeLen : List Slot → ℕ → ℕ
+freeLen before k = cond (eqb (nameAt before k) 0) (lenAt before k) 0
+
+-- what slots before and after a call have in common, whichever slot it took or freed
+pub record FreeSlots (before after : List Slot) : Type 0 where
+  pub lengths : (k : ℕ) → k < slotCount → nameAt after k ≡ 0 → lenAt after k ≡ freeLen before k
 
 -- ---- the calls
 
@@ -126,21 +137,23 @@ abbrev pub answer : ℕ → Objects → Answer
 answer n o = record { number = n; after = o }
 
 -- The contract of a call that borrows no store, by the rule for its objects. Unsound buffers are refused with 1 and stay. Else
--- number and objects are the rule's over any store, and the buffers stay sound. A refusal changes nothing, save that bind at a
--- refused target, 0x0500, still makes the name.
+-- number and objects are the rule's over any store, the buffers stay sound, and a free slot's length is settled. A refusal whose
+-- rule leaves the objects changes nothing; the one other refusal is bind's at a refused target, 0x0500, which makes a new name.
 pub record Answers (b : Buffers) (rule : Objects → Answer) (number : ℕ) (r : Buffers) : Type 0 where
   pub unsound : (Sound b → ⊥) → (number ≡ 1) × (r ≡ b)
   pub ruled : Sound b → (s : List ℕ) → answer number (objects r s) ≡ rule (objects b s)
   pub kept : Sound b → Sound r
-  pub stays : (number ≡ 0 → ⊥) → (number ≡ 0x0500 → ⊥) → r ≡ b
+  pub free : FreeSlots (b .slots) (r .slots)
+  pub stays : (number ≡ 0 → ⊥) → (s : List ℕ) → rule (objects b s) .after ≡ objects b s → r ≡ b
 
 -- The contract of a call that borrows the store, which holds s before and s′ after. Unsound buffers or a store of another length
--- are refused with 1. Else number and objects are the rule's, and the buffers stay sound. A refusal changes neither buffers nor
--- store.
+-- are refused with 1. Else number and objects are the rule's, the buffers stay sound, and a free slot's length is settled. A
+-- refusal changes neither buffers nor store.
 pub record AnswersIn (b : Buffers) (s : List ℕ) (rule : Objects → Answer) (number : ℕ) (r : Buffers) (s′ : List ℕ) : Type 0 where
   pub invalid : (Sound b → length s ≡ storeBytes → ⊥) → number ≡ 1
   pub ruled : Sound b → length s ≡ storeBytes → answer number (objects r s′) ≡ rule (objects b s)
   pub kept : Sound b → Sound r
+  pub free : FreeSlots (b .slots) (r .slots)
   pub size : length s′ ≡ length s
   pub stays : (number ≡ 0 → ⊥) → (r ≡ b) × (s′ ≡ s)
 
@@ -260,42 +273,3 @@ bufferSubData o target at bytes =
     cond (eqb (boundAt o target) 0) (answer 0x0502 o)
     (cond (ltb (length (bytesOf (o .contents (boundAt o target)))) (at + length bytes)) (answer 0x0501 o)
     (answer 0 (put o (boundAt o target) (overwrite (bytesOf (o .contents (boundAt o target))) at bytes))))
-
--- ---- for the code
-
--- how many slots are in use: as many as names live (`live-law` in proofs/Laws.antt)
-unfoldable pub liveIn : List Slot → ℕ
-liveIn slots = count slotCount (λ k. ltb 0 (nameAt slots k))
-
--- a slot is free, or within the limits
-pub record SlotFits (slot : Slot) (next : ℕ) : Type 0 where
-  pub small : 0 < slot .name → slot .len ≤ slotBytes
-  pub below : slot .name < next
-
--- slot k is free, or within the limits and the first with its name
-pub record SlotSound (b : Buffers) (k : ℕ) : Type 0 where
-  pub small : 0 < nameAt (b .slots) k → lenAt (b .slots) k ≤ slotBytes
-  pub below : nameAt (b .slots) k < b .next
-  pub first : 0 < nameAt (b .slots) k → slotOf (b .slots) (nameAt (b .slots) k) ≡ k
-
--- the buffers with slot k replaced
-abbrev pub withSlot : Buffers → ℕ → ℕ → ℕ → Buffers
-withSlot b k n l =
-    record {
-      slots = set (b .slots) k (record { name = n; len = l });
-      next = b .next;
-      «array_buffer» = b .«array_buffer»;
-      «element_buffer» = b .«element_buffer»;
-    }
-
--- what a step of the code does to the objects over any store
-pub record Steps (b : Buffers) (rule : Objects → Objects) (r : Buffers) : Type 0 where
-  pub state : (s : List ℕ) → objects r s ≡ rule (objects b s)
-  pub sound : Sound r
-
--- a name made live, or no room for it
-pub record Made (b : Buffers) (n : ℕ) (ok : Bool) (r : Buffers) : Type 0 where
-  pub room : (s : List ℕ) → ok ≡ roomFor (objects b s) n
-  pub state : (s : List ℕ) → objects r s ≡ cond ok (named (objects b s) n) (objects b s)
-  pub sound : Sound r
-  pub bound : ok ≡ true → Bindable (r .slots) n

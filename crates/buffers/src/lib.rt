@@ -8,9 +8,9 @@ ghost use lib.Dec.{eqb, ltb};
 ghost use Rattle.number.specs.Decides.{Decides};
 ghost use Rattle.number.specs.Bytes.{overwrite};
 ghost use Rattle.buffers.specs.Live.{NextLive};
-ghost use Rattle.buffers.specs.Objects.{nameAt, slotCount, lastName, slotOf, withSlot, lenAt, Bindable, Sound, SoundIs, SlotFits, IsFresh, objects, Made};
-ghost use Rattle.buffers.specs.Objects.{Answers, bindBuffer, AnswersIn, bufferData, bufferSubData, padded, isTarget, boundAt, deleteName};
-ghost use Rattle.buffers.specs.Objects.{Steps, deleteBuffers, Generates, liveIn};
+ghost use Rattle.buffers.specs.Objects.{nameAt, slotCount, lastName, slotOf, lenAt, Bindable, Sound, SoundIs, IsFresh, objects, Answers, bindBuffer, AnswersIn};
+ghost use Rattle.buffers.specs.Objects.{bufferData, bufferSubData, padded, isTarget, boundAt, deleteName, deleteBuffers, Generates};
+ghost use Rattle.buffers.specs.ObjectsCode.{withSlot, SlotFits, Made, Steps, liveIn};
 
 // Limits: slots, bytes of a slot's block, bytes of the store, and the number that no name reaches.
 pub const SLOT_COUNT: usize = 16;

@@ -12,7 +12,8 @@ use Rattle.stack.specs.Stack as stack
 use Rattle.stack.specs.Stack.{limit, MatrixUpdate, updateNumber, update, push, pop, answer, changed, stackAnswer}
 use Rattle.stack.specs.declared.MatrixStack.{MatrixStack}
 use Rattle.buffers.specs.Objects as buffer
-use Rattle.buffers.specs.Objects.{nameAt, lenAt, slotOf, slotBytes, storeBytes, Bindable, SlotSound}
+use Rattle.buffers.specs.Objects.{nameAt, lenAt, slotOf, slotBytes, storeBytes, Bindable}
+use Rattle.buffers.specs.ObjectsCode.{SlotSound}
 use Rattle.buffers.specs.declared.Slot.{Slot}
 use Rattle.buffers.specs.declared.Buffers.{Buffers}
 use Rattle.buffers.proofs.Bounds.{lt-or-ge, same?}
@@ -24,8 +25,8 @@ use Rattle.context.specs.declared.Context.{Context}
 use Rattle.context.specs.State.{stackAt, view, Sound}
 use Rattle.context.specs.Calls.{buffer, array, borrowsStore, Call, matrix, mode, object, attribute, pipeline, takeError, draw}
 use Rattle.context.specs.Rules.{step}
-use Rattle.context.specs.Contract.{putStack, stacksAfter, currentsOf, withCurrent, putCurrents, putStacks, putMode, putBuffers, putArrays}
-use Rattle.context.specs.Contract.{putAttributes, putPipeline, putError, Valid, Follows, Did}
+use Rattle.context.specs.Contract.{putStack, putBuffers, putError, stacksAfter, Valid, Follows, Did}
+use Rattle.context.specs.ContractCode.{currentsOf, withCurrent, putCurrents, putStacks, putMode, putArrays, putAttributes, putPipeline}
 
 -- ---- a call is valid or it is not
 

@@ -57,10 +57,3 @@ borrowsStore (attribute k) = false
 borrowsStore (pipeline k) = false
 borrowsStore takeError = false
 borrowsStore (draw d) = true
-
-abbrev pub isBind : BufferCall → Bool
-isBind (gen n) = false
-isBind (bind target name) = true
-isBind (delete names) = false
-isBind (bufferData target size bytes usage) = false
-isBind (bufferSubData target offset bytes) = false

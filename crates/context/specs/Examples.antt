@@ -1,14 +1,21 @@
 -- Worked examples as theorems about the rules.
+use mathlib.Core.Bool.{true≢false}
 use mathlib.Core.List.{List, [], _∷_, _++_, foldl}
+use mathlib.Core.Logic.{⊎-elim}
 use mathlib.Core.Option.{some, none}
-use mathlib.Core.Path.{_≡_, refl}
+use mathlib.Core.Path.{_≡_, refl, sym, _∙_}
+use Prim.Native.Nat.{ℕ, _<_}
+use native.Mathlib.Omega.{arith}
+use borrow.Author.Tests.{ne-eqb}
 use Rattle.stack.specs.Stack.{pop, stackStep}
 use Rattle.buffers.specs.Objects as objects
 use Rattle.buffers.specs.Bounded.{count}
 use Rattle.arrays.specs.Arrays.{vertexPointer, accepted, arrayStep}
+use Rattle.context.specs.declared.Context.{Context}
 use Rattle.context.specs.State.{State, freshState}
 use Rattle.context.specs.Calls.{gen, bind, delete, buffer, array, Call, matrix, mode, object, takeError}
 use Rattle.context.specs.Rules.{numberOf, step}
+use Rattle.context.specs.Contract.{noted, Follows}
 
 -- the state after a list of calls
 abbrev pub after : List Call → State
@@ -29,6 +36,18 @@ bind-lives = refl
 pub bind-next : after (bind5 ∷ []) .objects .buffers .next ≡ 6
 unfolding objects.bindBuffer objects.named objects.liveNames count
 bind-next = refl
+
+-- bind 0 at target 0 makes no name: it changes nothing but the error slot
+pub bind-zero-keeps : {c c1 : Context} {s s1 : List ℕ} {n : ℕ} → Follows (object (buffer (bind 0 0))) c s n c1 s1 → c1 ≡ noted n c
+unfolding objects.bindBuffer
+bind-zero-keeps {n = n} f =
+    let refused : n ≡ 0x0500 = f .number in
+    ⊎-elim (λ e. e) (λ m. absurd (true≢false (sym (m .0 .0)))) (f .refusal (λ z. omega arith) .0)
+
+-- a slot that a call frees has length 0
+pub freed-is-empty : {k : Call} {c c1 : Context} {s s1 : List ℕ} {n : ℕ} → Follows k c s n c1 s1
+    → (j : ℕ) → j < objects.slotCount → 0 < objects.nameAt (c .buffers .slots) j → objects.nameAt (c1 .buffers .slots) j ≡ 0 → objects.lenAt (c1 .buffers .slots) j ≡ 0
+freed-is-empty {c = c} f j h used free = f .free .lengths j h free ∙ simp (ne-eqb (objects.nameAt (c .buffers .slots) j) 0 (λ z. omega arith))
 
 -- 16 names fit, and the largest name is 2^32-2
 pub gen-limits : (numberOf (object (buffer (gen 16))) freshState ≡ 0) × (numberOf (object (buffer (gen 17))) freshState ≡ 4)

@@ -1,5 +1,5 @@
 -- What each call answers and makes of the state of a sound context (01, whole; the draw rules are crate draw's).
-use mathlib.Core.Bool.{Bool, true, false, cond, _&&_}
+use mathlib.Core.Bool.{Bool, true, false, not, cond, _&&_}
 use mathlib.Core.List.{List, [], _∷_}
 use mathlib.Core.Option.{Option, some, none, Option·getD}
 use Prim.Native.Nat.{ℕ}
@@ -73,6 +73,14 @@ bufferAnswer (delete ns) o = objects.deleteBuffers o ns
 -- the usage word is not kept
 bufferAnswer (bufferData target size bytes usage) o = objects.bufferData o target size bytes
 bufferAnswer (bufferSubData target offset bytes) o = objects.bufferSubData o target offset bytes
+
+-- whether a call makes a name although its target is refused: bind of a name that is neither 0 nor live
+abbrev pub makesName : BufferCall → objects.Objects → Bool
+makesName (gen n) o = false
+makesName (bind target name) o = not (eqb name 0) && objects.absent (o .contents name)
+makesName (delete ns) o = false
+makesName (bufferData target size bytes usage) o = false
+makesName (bufferSubData target offset bytes) o = false
 
 abbrev pub objectNumber : ObjectCall → ObjectState → ℕ
 objectNumber (buffer k) o = bufferAnswer k (o .buffers) .number

@@ -70,14 +70,9 @@ pub record Sound (c : Context) : Type 0 where
   pub client-unit : c .arrays .«client_active_texture» < unitCount
   pub active-unit : c .pipeline .«active_texture» < unitCount
 
--- for the code: all of it but the buffers
-pub record SoundApart (c : Context) : Type 0 where
-  pub stacks : (m : MatrixMode) → stack.Sound (stackAt m (c .stacks))
-  pub client-unit : c .arrays .«client_active_texture» < unitCount
-  pub active-unit : c .pipeline .«active_texture» < unitCount
-
--- What a fresh context promises: it is sound, it stands for the fresh state over any store, and its stacks are fresh in every place.
+-- What a fresh context promises: it is sound, it stands for the fresh state over any store, its stacks are fresh in every place, and no slot has a length.
 pub record Fresh (c : Context) : Type 0 where
   pub sound : Sound c
   pub state : (s : List ℕ) → view c s ≡ freshState
   pub stacks : (m : MatrixMode) → stackAt m (c .stacks) ≡ stack.freshStack
+  pub lengths : (k : ℕ) → k < buffer.slotCount → buffer.lenAt (c .buffers .slots) k ≡ 0

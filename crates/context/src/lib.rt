@@ -22,10 +22,11 @@ ghost use Rattle.matrix.specs.Matrix.{product};
 ghost use Rattle.stack.specs.Stack as stack;
 ghost use Rattle.buffers.specs.Objects.{storeBytes};
 ghost use Rattle.arrays.specs.Arrays.{unitCount};
-ghost use Rattle.context.specs.State.{stackAt, Sound, SoundApart, Fresh};
+ghost use Rattle.context.specs.State.{stackAt, Sound, Fresh};
 ghost use Rattle.context.specs.Rules.{matrixModes, slotAfter};
-ghost use Rattle.context.specs.Contract.{currentAt, putCurrent, currentsOf, putCurrents, putStacks, putBuffers, putArrays, putAttributes, putPipeline};
-ghost use Rattle.context.specs.Contract.{noted, modeOf, reply, Settled, sceneFor, drawReply};
+ghost use Rattle.context.specs.Contract.{putBuffers, noted, drawReply};
+ghost use Rattle.context.specs.ContractCode.{SoundApart, currentAt, putCurrent, currentsOf, putCurrents, putStacks, putArrays, putAttributes, putPipeline};
+ghost use Rattle.context.specs.ContractCode.{modeOf, reply, Settled, sceneFor};
 
 // The stack that matrix calls go to.
 pub enum MatrixMode {

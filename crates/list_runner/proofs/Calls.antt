@@ -16,7 +16,8 @@ use Rattle.context.specs.declared.DrawReply.{DrawReply}
 use Rattle.vertex.specs.Scene.{DrawCall}
 use Rattle.stack.specs.Stack.{MatrixUpdate, update, push, pop}
 use Rattle.context.proofs.Parts.{changedIn, changes-part}
-use Rattle.context.specs.Contract.{currentsOf, putCurrents, putStacks, putError, Did, Does}
+use Rattle.context.specs.Contract.{putError, Did, Does}
+use Rattle.context.specs.ContractCode.{currentsOf, putCurrents, putStacks}
 use Rattle.context.specs.Calls.{BufferCall, buffer, array, Call, matrix, mode, object, attribute, pipeline, takeError, draw}
 use Rattle.list_records.specs.declared.CallReply.{CallReply}
 use Rattle.list_words.specs.Words.{wordAt, fourFloats, matrixFloats}

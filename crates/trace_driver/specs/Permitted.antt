@@ -4,7 +4,8 @@ use mathlib.Core.List.{List, [], _∷_}
 use Prim.Native.Nat.{ℕ, _+_, _-_, _*_}
 use lib.Dec.{eqb, ltb, leb}
 use Rattle.number.specs.Tables.{Row, _names_, rowOr}
-use Rattle.buffers.specs.Objects.{storeBytes, liveIn}
+use Rattle.buffers.specs.Objects.{storeBytes}
+use Rattle.buffers.specs.ObjectsCode.{liveIn}
 use Rattle.buffers.specs.declared.Slot.{Slot}
 use Rattle.vertex.specs.Index.{rangeCount, indexWidth}
 use Rattle.context.specs.declared.Context.{Context}

@@ -17,7 +17,8 @@ use Rattle.pipeline.specs.declared.Pipeline.{Pipeline}
 use Rattle.context.specs.declared.MatrixMode.{MatrixMode}
 use Rattle.context.specs.declared.Context.{Context}
 use Rattle.context.specs.State.{stackAt}
-use Rattle.context.specs.Contract.{putStack, putStacks, putBuffers, putArrays, putPipeline}
+use Rattle.context.specs.Contract.{putStack, putBuffers}
+use Rattle.context.specs.ContractCode.{putStacks, putArrays, putPipeline}
 use Rattle.buffers.specs.Live.{NextLive}
 
 -- ---- stacks and units
