@@ -9,7 +9,7 @@ use Rattle.number.specs.Numbers.{magnitude}
 use Rattle.matrix.specs.Matrix.{at, transformRow, transformed}
 use Rattle.fetch.specs.Decode.{vectorOf}
 use Rattle.fetch.specs.Fetch.{positionNumber}
-use Rattle.fetch.specs.Places.{partSource}
+use Rattle.fetch.specs.FetchCode.{partSource}
 use Rattle.fetch.specs.declared.ArrayPointer.{ArrayPointer}
 use Rattle.fetch.specs.declared.Fetched.{Fetched}
 use Rattle.fetch.specs.declared.Vec4.{Vec4}

@@ -5,8 +5,8 @@ use mathlib.Core.List.{List, []}
 use mathlib.Core.Path.{_≡_, sym, ap, _∙_}
 use native.Mathlib.Omega.{arith}
 use borrow.Author.Tests.{lt-ltb, le-ltb, ne-eqb}
-use Rattle.buffers.specs.Objects.{Objects, objects, liveNames, named, make, genNames, genBuffers, roomFor, Sound, answer}
-use Rattle.buffers.specs.ObjectsCode.{Filled, Made}
+use Rattle.buffers.specs.Objects.{Objects, objects, liveNames, named, make, genNames, genAnswer, roomFor, Sound, answer}
+use Rattle.buffers.specs.ObjectsCode.{Filled, MakesName}
 use Rattle.buffers.specs.declared.Buffers.{Buffers}
 use Rattle.buffers.proofs.Slots.{contents-none}
 use Rattle.buffers.proofs.Free.{filled-then}
@@ -33,7 +33,7 @@ next-made b sound s ok room few =
     )
 
 -- one name more, the next
-pub left-less : (b : Buffers) (n : ℕ) (out : Buffers) (left : ℕ) → Left b n out left → 0 < left → (ok : Bool) (m : Buffers) → Made out (out .next) ok m → Left b n m (left - 1)
+pub left-less : (b : Buffers) (n : ℕ) (out : Buffers) (left : ℕ) → Left b n out left → 0 < left → (ok : Bool) (m : Buffers) → MakesName out (out .next) ok m → Left b n m (left - 1)
 unfolding genNames
 left-less b n out left l more ok m made =
     record {
@@ -56,14 +56,14 @@ left-none b n out left l none s = ap (λ (k : ℕ). genNames k (objects out s)) 
 
 -- the rule, case by case
 module _ (o : Objects) (n : ℕ) where
-  pub gen-full : 16 < liveNames o + n → answer 4 o ≡ genBuffers o n
-  unfolding genBuffers
+  pub gen-full : 16 < liveNames o + n → answer 4 o ≡ genAnswer o n
+  unfolding genAnswer
   gen-full h = simp (lt-ltb 16 (liveNames o + n) h)
 
-  pub gen-past : liveNames o + n ≤ 16 → 4294967295 < o .next + n → answer 5 o ≡ genBuffers o n
-  unfolding genBuffers
+  pub gen-past : liveNames o + n ≤ 16 → 4294967295 < o .next + n → answer 5 o ≡ genAnswer o n
+  unfolding genAnswer
   gen-past h k = simp (le-ltb 16 (liveNames o + n) h, lt-ltb 4294967295 (o .next + n) k)
 
-  pub gen-done : liveNames o + n ≤ 16 → o .next + n ≤ 4294967295 → answer 0 (genNames n o) ≡ genBuffers o n
-  unfolding genBuffers
+  pub gen-done : liveNames o + n ≤ 16 → o .next + n ≤ 4294967295 → answer 0 (genNames n o) ≡ genAnswer o n
+  unfolding genAnswer
   gen-done h k = simp (le-ltb 16 (liveNames o + n) h, le-ltb 4294967295 (o .next + n) k)

@@ -8,7 +8,7 @@ use native.Mathlib.Omega.{arith}
 use lib.ListN.{length, set}
 use borrow.Author.Tests.{lt-ltb, eq-eqb, ne-eqb}
 use Rattle.buffers.specs.Objects.{Objects, objects, absent, nameAt, slotOf, contentsOf, liveNames, named, Bindable, Sound}
-use Rattle.buffers.specs.ObjectsCode.{Made}
+use Rattle.buffers.specs.ObjectsCode.{MakesName}
 use Rattle.buffers.specs.declared.Buffers.{Buffers}
 use Rattle.buffers.proofs.Bounds.{never}
 use Rattle.buffers.proofs.Slots.{slot, Unknown, slot-found, slot-unknown, contents-none, contents-some, contents-put, live-here, bindable-set}
@@ -24,13 +24,13 @@ unlike b n z unknown s q =
     (sym (ap (λ (o : Objects). absent (o .contents n)) q) ∙ simp (ne-eqb n 0 z, contents-none (b .slots) s n unknown, eq-eqb n n refl))
 
 module _ (b : Buffers) (sound : Sound b) (n : ℕ) where
-  pub made-zero : n ≡ 0 → Made b n true b
+  pub made-zero : n ≡ 0 → MakesName b n true b
   unfolding named
   made-zero e = record { room = λ s. simp (eq-eqb n 0 e); state = λ s. simp (eq-eqb n 0 e); sound = sound; bound = λ h. inl e; slots = filled-same; stays = λ s q. refl }
 
   module _ (z : n ≡ 0 → ⊥) (k : ℕ) (found : k ≡ slotOf (b .slots) n) where
     pub made-live : (next : ℕ) → k < 16 → next ≡ max (b .next) (n + 1)
-        → Made b n true (record { slots = b .slots; next = next; «array_buffer» = b .«array_buffer»; «element_buffer» = b .«element_buffer» })
+        → MakesName b n true (record { slots = b .slots; next = next; «array_buffer» = b .«array_buffer»; «element_buffer» = b .«element_buffer» })
     unfolding named
     made-live next h lifted =
         let pos : 0 < n = omega (arith, z) in
@@ -55,7 +55,7 @@ module _ (b : Buffers) (sound : Sound b) (n : ℕ) where
             omega (arith, slot-found (b .slots) n within, sound .below (slotOf (b .slots) n) within)
 
     module _ (new : 16 ≤ k) (f : ℕ) (first-free : f ≡ slotOf (b .slots) 0) where
-      pub made-full : 16 ≤ f → Made b n false b
+      pub made-full : 16 ≤ f → MakesName b n false b
       made-full h =
           record {
             room = λ s. simp (ne-eqb n 0 z, contents-none (b .slots) s n (slot-unknown (b .slots) n (omega arith)), sym (live-law b sound s) ∙ live-full (b .slots) (omega arith));
@@ -67,7 +67,7 @@ module _ (b : Buffers) (sound : Sound b) (n : ℕ) where
           }
 
       pub made-new : length (b .slots) ≡ 16 → (next : ℕ) → f < 16 → next ≡ max (b .next) (n + 1)
-          → Made b n true (record { slots = set (b .slots) f (slot n 0); next = next; «array_buffer» = b .«array_buffer»; «element_buffer» = b .«element_buffer» })
+          → MakesName b n true (record { slots = set (b .slots) f (slot n 0); next = next; «array_buffer» = b .«array_buffer»; «element_buffer» = b .«element_buffer» })
       unfolding named
       made-new sized next h lifted =
           let pos : 0 < n = omega (arith, z) in

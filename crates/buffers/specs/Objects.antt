@@ -67,8 +67,8 @@ abbrev pub lenAt : List Slot → ℕ → ℕ
 lenAt slots k = getD slots k freeSlot .len
 
 -- the bytes of slot k: the first of its block
-abbrev pub bytesAt : List Slot → List ℕ → ℕ → List ℕ
-bytesAt slots store k = take (lenAt slots k) (drop (slotBytes * k) store)
+abbrev pub bytesInSlot : List Slot → List ℕ → ℕ → List ℕ
+bytesInSlot slots store k = take (lenAt slots k) (drop (slotBytes * k) store)
 
 -- the first slot with this name, or 16
 unfoldable pub slotOf : List Slot → ℕ → ℕ
@@ -77,7 +77,7 @@ slotOf slots n = first slotCount (λ k. eqb (nameAt slots k) n)
 -- what a name holds; name 0 marks a free slot and holds nothing
 unfoldable pub contentsOf : List Slot → List ℕ → ℕ → Option (List ℕ)
 contentsOf slots store n =
-    cond (eqb n 0) none (cond (ltb (slotOf slots n) slotCount) (some (bytesAt slots store (slotOf slots n))) none)
+    cond (eqb n 0) none (cond (ltb (slotOf slots n) slotCount) (some (bytesInSlot slots store (slotOf slots n))) none)
 
 abbrev pub objects : Buffers → List ℕ → Objects
 objects b store =
@@ -174,8 +174,8 @@ unfoldable pub genNames : ℕ → Objects → Objects
 genNames zero o = o
 genNames (suc n) o = genNames n (make o (o .next))
 
-unfoldable pub genBuffers : Objects → ℕ → Answer
-genBuffers o n =
+unfoldable pub genAnswer : Objects → ℕ → Answer
+genAnswer o n =
     cond (ltb slotCount (liveNames o + n)) (answer 4 o)
     (cond (ltb lastName (o .next + n)) (answer 5 o)
     (answer 0 (genNames n o)))
@@ -185,7 +185,7 @@ abbrev pub genFirst : ℕ → ℕ → ℕ → ℕ
 genFirst number next n = cond (eqb number 0 && ltb 0 n) next 0
 
 pub record Generates (b : Buffers) (n : ℕ) (number : ℕ) (first : ℕ) (r : Buffers) : Type 0 where
-  pub answers : Answers b (λ o. genBuffers o n) number r
+  pub answers : Answers b (λ o. genAnswer o n) number r
   pub names : first ≡ genFirst number (b .next) n
 
 -- ---- bind
@@ -208,8 +208,8 @@ bindElement o n = record { next = o .next; contents = o .contents; array = o .ar
 abbrev pub roomFor : Objects → ℕ → Bool
 roomFor o n = eqb n 0 || (not (absent (o .contents n)) || ltb (liveNames o) slotCount)
 
-unfoldable pub bindBuffer : Objects → ℕ → ℕ → Answer
-bindBuffer o target n =
+unfoldable pub bindAnswer : Objects → ℕ → ℕ → Answer
+bindAnswer o target n =
     cond (leb lastName n) (answer 5 o)
     (cond (not (roomFor o n)) (answer 4 o)
     (cond (eqb target 0x8892) (answer 0 (bindArray (named o n) n))
@@ -235,8 +235,8 @@ unfoldable pub deleteNames : List ℕ → Objects → Objects
 deleteNames [] o = o
 deleteNames (n ∷ ns) o = deleteNames ns (deleteName o n)
 
-abbrev pub deleteBuffers : Objects → List ℕ → Answer
-deleteBuffers o names = answer 0 (deleteNames names o)
+abbrev pub deleteAnswer : Objects → List ℕ → Answer
+deleteAnswer o names = answer 0 (deleteNames names o)
 
 -- ---- data and sub-data
 
@@ -248,8 +248,8 @@ abbrev pub boundAt : Objects → ℕ → ℕ
 boundAt o target = cond (eqb target 0x8892) (o .array) (cond (eqb target 0x8893) (o .element) 0)
 
 -- a live name's bytes replaced
-abbrev pub put : Objects → ℕ → List ℕ → Objects
-put o n bytes =
+abbrev pub withBytes : Objects → ℕ → List ℕ → Objects
+withBytes o n bytes =
     record {
       next = o .next;
       contents = λ m. cond (eqb m n) (some bytes) (o .contents m);
@@ -261,15 +261,15 @@ put o n bytes =
 unfoldable pub padded : ℕ → List ℕ → List ℕ
 padded size bytes = take size (bytes ++ replicate size 0)
 
-unfoldable pub bufferData : Objects → ℕ → ℕ → List ℕ → Answer
-bufferData o target size bytes =
+unfoldable pub dataAnswer : Objects → ℕ → ℕ → List ℕ → Answer
+dataAnswer o target size bytes =
     cond (not (isTarget target)) (answer 0x0500 o)
     (cond (eqb (boundAt o target) 0) (answer 0x0502 o)
     (cond (ltb slotBytes size) (answer 6 o)
-    (answer 0 (put o (boundAt o target) (padded size bytes)))))
+    (answer 0 (withBytes o (boundAt o target) (padded size bytes)))))
 
-unfoldable pub bufferSubData : Objects → ℕ → ℕ → List ℕ → Answer
-bufferSubData o target at bytes =
+unfoldable pub subDataAnswer : Objects → ℕ → ℕ → List ℕ → Answer
+subDataAnswer o target at bytes =
     cond (eqb (boundAt o target) 0) (answer 0x0502 o)
     (cond (ltb (length (bytesOf (o .contents (boundAt o target)))) (at + length bytes)) (answer 0x0501 o)
-    (answer 0 (put o (boundAt o target) (overwrite (bytesOf (o .contents (boundAt o target))) at bytes))))
+    (answer 0 (withBytes o (boundAt o target) (overwrite (bytesOf (o .contents (boundAt o target))) at bytes))))

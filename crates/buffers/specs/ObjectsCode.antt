@@ -54,7 +54,7 @@ pub record Steps (b : Buffers) (rule : Objects → Objects) (r : Buffers) : Type
   pub slots : Freed (b .slots) (r .slots)
 
 -- a name made live, or no room for it; where it changes no object it changes nothing
-pub record Made (b : Buffers) (n : ℕ) (ok : Bool) (r : Buffers) : Type 0 where
+pub record MakesName (b : Buffers) (n : ℕ) (ok : Bool) (r : Buffers) : Type 0 where
   pub room : (s : List ℕ) → ok ≡ roomFor (objects b s) n
   pub state : (s : List ℕ) → objects r s ≡ cond ok (named (objects b s) n) (objects b s)
   pub sound : Sound r

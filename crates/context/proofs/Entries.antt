@@ -34,8 +34,8 @@ use Rattle.pipeline.specs.declared.Pipeline.{Pipeline}
 use Rattle.pipeline.specs.declared.PipelineAnswer.{PipelineAnswer}
 use Rattle.pipeline.proofs.Laws.{refusal-keeps, active-stays}
 use Rattle.vertex.specs.Scene.{Source, DrawCall}
-use Rattle.vertex.specs.Represented.{sceneIn}
-use Rattle.vertex.specs.declared.Scene.{Scene}
+use Rattle.vertex.specs.SceneCode.{sceneIn}
+use Rattle.vertex.specs.declared.DrawInputs.{DrawInputs}
 use Rattle.draw.specs.Draw.{drawIn, Draws}
 use Rattle.draw.specs.declared.Drawn.{Drawn}
 use Rattle.context.specs.declared.MatrixMode.{MatrixMode}
@@ -43,13 +43,13 @@ use Rattle.context.specs.declared.Stacks.{Stacks}
 use Rattle.context.specs.declared.Context.{Context}
 use Rattle.context.specs.declared.Currents.{Currents}
 use Rattle.context.specs.declared.Reply.{Reply}
-use Rattle.context.specs.State.{stackAt, view, Sound, Fresh}
+use Rattle.context.specs.State.{stackAt, stateOf, Sound, Fresh}
 use Rattle.context.specs.Calls as calls
-use Rattle.context.specs.Calls.{BufferCall, gen, bind, delete, bufferData, bufferSubData, Call, isUpload, borrowsStore}
+use Rattle.context.specs.Calls.{BufferCall, genBuffers, bindBuffer, deleteBuffers, bufferData, bufferSubData, Call, isUpload, borrowsStore}
 use Rattle.context.specs.Rules.{matrixModes, sameMode, bufferAnswer, makesName, drawing, slotAfter}
 use Rattle.context.specs.Contract.{putStack, putBuffers, putError, noted, Valid, RefusalKeeps, Follows, Did, Does, Drew, drawCall}
 use Rattle.context.specs.ContractCode.{SoundApart, currentAt, putCurrent, currentsOf, withCurrent, putCurrents, putMode, putStacks, putArrays, putAttributes}
-use Rattle.context.specs.ContractCode.{putPipeline, reply, Settled, sceneFor}
+use Rattle.context.specs.ContractCode.{putPipeline, reply, Settled, inputsFor}
 
 -- ---- soundness
 
@@ -146,11 +146,11 @@ module _ (k : stack.MatrixCall) (c : Context) (h : Sound c) where
   abbrev new : StackAnswer
   new = stack.stackAnswer k (stackAt (c .mode) (c .stacks))
 
-  stack-states : (m : MatrixMode) → stack.stateOf (stackAt m (putStack (c .mode) (new .stack) (c .stacks)))
-      ≡ cond (sameMode m (c .mode)) (stack.stackStep k (stack.stateOf (stackAt m (c .stacks)))) (stack.stateOf (stackAt m (c .stacks)))
+  stack-states : (m : MatrixMode) → stack.stackStateOf (stackAt m (putStack (c .mode) (new .stack) (c .stacks)))
+      ≡ cond (sameMode m (c .mode)) (stack.stackStep k (stack.stackStateOf (stackAt m (c .stacks)))) (stack.stackStateOf (stackAt m (c .stacks)))
   stack-states =
       put-all
-      (λ m x. stack.stateOf x ≡ cond (sameMode m (c .mode)) (stack.stackStep k (stack.stateOf (stackAt m (c .stacks)))) (stack.stateOf (stackAt m (c .stacks))))
+      (λ m x. stack.stackStateOf x ≡ cond (sameMode m (c .mode)) (stack.stackStep k (stack.stackStateOf (stackAt m (c .stacks)))) (stack.stackStateOf (stackAt m (c .stacks))))
       (c .mode) (c .stacks) (new .stack)
       (rw (same-mode (c .mode)) (follows old (h .stacks (c .mode)) k .1))
       (λ m e. rw e)
@@ -163,7 +163,7 @@ module _ (k : stack.MatrixCall) (c : Context) (h : Sound c) where
         state = λ i. record {
           mode = c .mode;
           stacks = λ m. stack-states m i;
-          objects = view c s .objects;
+          objects = stateOf c s .objects;
           attributes = c .attributes;
           pipeline = c .pipeline;
           error = slotAfter (f .0 i) (c .error);
@@ -225,7 +225,7 @@ module _ (u : stack.MatrixUpdate) (c : Context) where
       (ap (λ x. putCurrents x (c .stacks)) e ∙ sym (put-current (c .mode) (c .stacks) (stack.updated u (currentAt (c .mode) kept)))
       ∙ ap (λ (x : List Float). putStack (c .mode) (withCurrent (record { entries = stack.updated u x }) in-force) (c .stacks)) (sym (current-at (c .mode) (c .stacks))))
       ∙ sym (ap answered (is-two in-force (h .stacks (c .mode)) (stack.update u)
-      ∙ ap (λ (n : ℕ). cond (eqb n 0) (stack.answer 0 (stack.changed (stack.update u) in-force)) (stack.answer n in-force)) z))
+      ∙ ap (λ (n : ℕ). cond (eqb n 0) (stack.stackAnswered 0 (stack.changed (stack.update u) in-force)) (stack.stackAnswered n in-force)) z))
       )
 
   -- the value may be had from a copy of the current matrices
@@ -250,8 +250,8 @@ module _ (u : stack.MatrixUpdate) (c : Context) where
       ap (λ (x : Currents). reply n (noted n (putStacks (putCurrents x (c .stacks)) c))) e
       ∙ ap (λ (t : Stacks). reply n (noted n (putStacks t c))) (sym (put-same (c .mode) (c .stacks)))
       ∙ sym (ap answered (is-two in-force (h .stacks (c .mode)) (stack.update u)
-      ∙ ap (λ (x : ℕ). cond (eqb x 0) (stack.answer 0 (stack.changed (stack.update u) in-force)) (stack.answer x in-force)) (sym z)
-      ∙ ap (λ b. cond b (stack.answer 0 (stack.changed (stack.update u) in-force)) (stack.answer n in-force)) (ne-eqb n 0 q)))
+      ∙ ap (λ (x : ℕ). cond (eqb x 0) (stack.stackAnswered 0 (stack.changed (stack.update u) in-force)) (stack.stackAnswered x in-force)) (sym z)
+      ∙ ap (λ b. cond b (stack.stackAnswered 0 (stack.changed (stack.update u) in-force)) (stack.stackAnswered n in-force)) (ne-eqb n 0 q)))
       )
 
 -- ---- mode calls
@@ -375,8 +375,8 @@ named-same o n below = go (eqb n 0) (buffer.absent (o .contents n)) refl
 -- a refused call that does not borrow the store leaves the objects, or is a bind that still makes its name
 refused-same : (k : BufferCall) (o : buffer.Objects) → ((n : ℕ) → buffer.absent (o .contents n) ≡ false → n < o .next) → isUpload k ≡ false
     → (bufferAnswer k o .number ≡ 0 → ⊥) → (bufferAnswer k o .after ≡ o) ⊎ ((makesName k o ≡ true) × (bufferAnswer k o .number ≡ 0x0500))
-unfolding buffer.genBuffers buffer.bindBuffer
-refused-same (gen n) o below e q = go (ltb 16 (buffer.liveNames o + n)) (ltb 4294967295 (o .next + n)) q
+unfolding buffer.genAnswer buffer.bindAnswer
+refused-same (genBuffers n) o below e q = go (ltb 16 (buffer.liveNames o + n)) (ltb 4294967295 (o .next + n)) q
   where
     answered : (x y : Bool) → buffer.Answer
     answered x y = cond x (buffer.answer 4 o) (cond y (buffer.answer 5 o) (buffer.answer 0 (buffer.genNames n o)))
@@ -385,7 +385,7 @@ refused-same (gen n) o below e q = go (ltb 16 (buffer.liveNames o + n)) (ltb 429
     go true y q = inl refl
     go false true q = inl refl
     go false false q = absurd (q refl)
-refused-same (bind target name) o below e q = go (leb 4294967295 name) (not (buffer.roomFor o name)) (eqb target 0x8892) (eqb target 0x8893) q
+refused-same (bindBuffer target name) o below e q = go (leb 4294967295 name) (not (buffer.roomFor o name)) (eqb target 0x8892) (eqb target 0x8893) q
   where
     answered : (w x y z : Bool) → buffer.Answer
     answered w x y z =
@@ -399,7 +399,7 @@ refused-same (bind target name) o below e q = go (leb 4294967295 name) (not (buf
     go false false true z q = absurd (q refl)
     go false false false true q = absurd (q refl)
     go false false false false q = ⊎-elim (λ s. inl s) (λ m. inr (m, refl)) (named-same o name (below name))
-refused-same (delete names) o below e q = absurd (q refl)
+refused-same (deleteBuffers names) o below e q = absurd (q refl)
 refused-same (bufferData target size bytes usage) o below e q = never true refl e
 refused-same (bufferSubData target offset bytes) o below e q = never true refl e
 
@@ -413,7 +413,7 @@ module _ (k : BufferCall) (c : Context) (n : ℕ) (b : Buffers) where
         number = ap (λ x. x .number) e;
         state = λ i. record {
           mode = c .mode;
-          stacks = view c s .stacks;
+          stacks = stateOf c s .stacks;
           objects = record { buffers = e i .after; arrays = c .arrays };
           attributes = c .attributes;
           pipeline = c .pipeline;
@@ -475,7 +475,7 @@ draw-unready d c s out h = (
 
 -- a draw that goes by the draw rules
 pub draw-did : (d : DrawCall) (c : Context) (s : List ℕ) (r : Drawn) (out out′ : List Float) → Sound c × (length s ≡ buffer.storeBytes)
-    → Draws (drawing (view c s .stacks) (view c s .objects) (view c s .attributes) d) r out out′
+    → Draws (drawing (stateOf c s .stacks) (stateOf c s .objects) (stateOf c s .attributes) d) r out out′
     → Did (calls.draw d) c s (r .number) (noted (r .number) c) s × Drew d c s r out out′
 draw-did d c s r out out′ h e = (
   record {
@@ -484,8 +484,8 @@ draw-did d c s r out out′ h e = (
       number = e .number;
       state = λ i. record {
         mode = c .mode;
-        stacks = view c s .stacks;
-        objects = view c s .objects;
+        stacks = stateOf c s .stacks;
+        objects = stateOf c s .objects;
         attributes = c .attributes;
         pipeline = c .pipeline;
         error = slotAfter (e .number i) (c .error);
@@ -501,8 +501,9 @@ draw-did d c s r out out′ h e = (
   record { invalid = λ q. absurd (q (record { sound = h .0; store = λ _. h .1 })); drawn = λ v. e },
 )
 
--- the same, from what the inner draw makes of the context's scene
-pub draw-from : (source : Source) (mode stages base : ℕ) (guest : List ℕ) (c : Context) (s : List ℕ) (x : Scene) (r : Drawn) (out out′ : List Float) → x ≡ sceneFor c base stages
+-- the same, from what the inner draw makes of the context's draw inputs
+pub draw-from : (source : Source) (mode stages base : ℕ) (guest : List ℕ) (c : Context) (s : List ℕ) (x : DrawInputs) (r : Drawn) (out out′ : List Float)
+    → x ≡ inputsFor c base stages
     → Sound c × (length s ≡ buffer.storeBytes) → Draws (drawIn (sceneIn x s guest) (c .buffers .«element_buffer») mode source (length out)) r out out′
     → Did (calls.draw (drawCall source mode stages base guest (length out))) c s (r .number) (noted (r .number) c) s
     × Drew (drawCall source mode stages base guest (length out)) c s r out out′
@@ -533,7 +534,7 @@ new-fresh t b a v p e f g h q =
       };
       state = λ s i. record {
         mode = MatrixMode.Modelview;
-        stacks = λ m. (ap stack.stateOf (every m) ∙ fresh-state) i;
+        stacks = λ m. (ap stack.stackStateOf (every m) ∙ fresh-state) i;
         objects = record { buffers = f .state s i; arrays = g i };
         attributes = h i;
         pipeline = q i;

@@ -17,7 +17,7 @@ use Rattle.buffers.specs.declared.Buffers.{Buffers}
 use Rattle.buffers.proofs.Bounds.{never}
 use Rattle.buffers.proofs.Slots.{slot-cases, slot-found, contents-none, contents-some}
 use Rattle.context.specs.declared.Context.{Context}
-use Rattle.context.specs.State.{State, view, Sound}
+use Rattle.context.specs.State.{State, stateOf, Sound}
 use Rattle.context.specs.Calls.{Call, draw}
 use Rattle.context.specs.Rules.{errorCode}
 use Rattle.context.specs.Contract.{putBuffers, noted, Valid, StillMakes, RefusalKeeps, Follows, Did, Drew}
@@ -25,7 +25,7 @@ use Rattle.context.specs.Settles.{Agree, Settles}
 use Rattle.context.proofs.Parts.{valid-decided}
 
 -- the state and the stacks have every part of the context but the slots
-same-parts : (c c′ : Context) (s s′ : List ℕ) → view c s ≡ view c′ s′ → c .stacks ≡ c′ .stacks → putBuffers (c′ .buffers) c ≡ c′
+same-parts : (c c′ : Context) (s s′ : List ℕ) → stateOf c s ≡ stateOf c′ s′ → c .stacks ≡ c′ .stacks → putBuffers (c′ .buffers) c ≡ c′
 same-parts c c′ s s′ p q =
     λ i. record { mode = p i .mode; stacks = q i; buffers = c′ .buffers; arrays = p i .objects .arrays; attributes = p i .attributes; pipeline = p i .pipeline; error = p i .error }
 
@@ -84,7 +84,7 @@ module _ {call : Call} {c c1 c1′ : Context} {s s1 s1′ : List ℕ} {n n′ : 
   invalid-agree i =
       let same : c1 ≡ c1′ = d .invalid i .1 ∙ sym (d′ .invalid i .1) in
       let store : s1 ≡ s1′ = d .invalid i .2 ∙ sym (d′ .invalid i .2) in
-      let state : view c1 s1 ≡ view c1′ s1′ = (λ j. view (same j) (store j)) in
+      let state : stateOf c1 s1 ≡ stateOf c1′ s1′ = (λ j. stateOf (same j) (store j)) in
       record {
         number = d .invalid i .0 ∙ sym (d′ .invalid i .0);
         state = state;

@@ -17,7 +17,7 @@ use Rattle.context.specs.declared.MatrixMode.{MatrixMode}
 use Rattle.context.specs.declared.Stacks.{Stacks}
 use Rattle.context.specs.declared.Context.{Context}
 use Rattle.context.specs.declared.DrawReply.{DrawReply}
-use Rattle.context.specs.State.{stackAt, view, Sound}
+use Rattle.context.specs.State.{stackAt, stateOf, Sound}
 use Rattle.context.specs.Calls.{ofBuffers, borrowsStore, Call, matrix, mode, object, attribute, pipeline, takeError, draw}
 use Rattle.context.specs.Rules.{makesName, slotAfter, drawing, numberOf, step}
 
@@ -57,7 +57,7 @@ stacksAfter (draw d) c = c .stacks
 
 -- a bind at a refused target, 0x0500, of a name that is neither 0 nor live: it is refused and still makes the name
 abbrev pub StillMakes : Call → ℕ → Context → List ℕ → Type 0
-StillMakes call n c s = (ofBuffers (λ k. makesName k (view c s .objects .buffers)) call ≡ true) × (n ≡ 0x0500)
+StillMakes call n c s = (ofBuffers (λ k. makesName k (stateOf c s .objects .buffers)) call ≡ true) × (n ≡ 0x0500)
 
 -- a refusal changes nothing but the slot, save that such a bind changes the buffers
 abbrev pub RefusalKeeps : Call → ℕ → Context → List ℕ → Context → Type 0
@@ -67,8 +67,8 @@ RefusalKeeps call n c s c′ = (c′ ≡ noted n c) ⊎ (StillMakes call n c s �
 -- lengths in free slots, and what a refusal leaves. Which slot holds a name, and what the store holds outside live buffers, is free
 -- after a buffer call and stays after any other.
 pub record Follows (call : Call) (c : Context) (s : List ℕ) (n : ℕ) (c′ : Context) (s′ : List ℕ) : Type 0 where
-  pub number : n ≡ numberOf call (view c s)
-  pub state : view c′ s′ ≡ step call (view c s)
+  pub number : n ≡ numberOf call (stateOf c s)
+  pub state : stateOf c′ s′ ≡ step call (stateOf c s)
   pub sound : Sound c′
   pub stacks : c′ .stacks ≡ stacksAfter call c
   pub slots : ofBuffers (λ k. true) call ≡ false → c′ .buffers ≡ c .buffers
@@ -88,7 +88,7 @@ Does call c n c′ = (s : List ℕ) → Did call c s n c′ s
 -- What a draw promises besides: its count of triangles, and the output before and after. A draw that is not valid counts 0 and leaves the output.
 pub record Drew (d : DrawCall) (c : Context) (s : List ℕ) (r : Drawn) (out out′ : List Float) : Type 0 where
   pub invalid : (Valid (draw d) c s → ⊥) → (r .count ≡ 0) × (out′ ≡ out)
-  pub drawn : Valid (draw d) c s → Draws (drawing (view c s .stacks) (view c s .objects) (view c s .attributes) d) r out out′
+  pub drawn : Valid (draw d) c s → Draws (drawing (stateOf c s .stacks) (stateOf c s .objects) (stateOf c s .attributes) d) r out out′
 
 -- ---- a draw's arguments and its answer, as the entries have them
 

@@ -12,7 +12,7 @@ use Rattle.arrays.specs.Arrays.{unitCount}
 use Rattle.arrays.specs.declared.Arrays.{Arrays}
 use Rattle.arrays.specs.declared.Attributes.{Attributes}
 use Rattle.pipeline.specs.declared.Pipeline.{Pipeline}
-use Rattle.vertex.specs.declared.Scene.{Scene}
+use Rattle.vertex.specs.declared.DrawInputs.{DrawInputs}
 use Rattle.context.specs.declared.MatrixMode.{MatrixMode}
 use Rattle.context.specs.declared.Stacks.{Stacks}
 use Rattle.context.specs.declared.Context.{Context}
@@ -84,8 +84,8 @@ pub record Settled (c : Context) (r : Reply) (out : Reply) : Type 0 where
   pub unsound : (Sound c → ⊥) → out ≡ reply 1 c
 
 -- what a draw's vertices are made from, in the code's record
-abbrev pub sceneFor : Context → ℕ → ℕ → Scene
-sceneFor c base stages =
+abbrev pub inputsFor : Context → ℕ → ℕ → DrawInputs
+inputsFor c base stages =
     record {
       transform = product (c .stacks .projection .current .entries) (c .stacks .modelview .current .entries);
       modelview = c .stacks .modelview .current .entries;

@@ -10,8 +10,8 @@ use Rattle.buffers.specs.Objects.{slotCount, storeBytes, nameAt, lenAt, slotOf,
 use Rattle.vertex.specs.Scene.{DrawCall}
 use Rattle.draw.specs.declared.Drawn.{Drawn}
 use Rattle.context.specs.declared.Context.{Context}
-use Rattle.context.specs.State.{view}
-use Rattle.context.specs.Calls.{gen, buffer, ofBuffers, Call, object, takeError}
+use Rattle.context.specs.State.{stateOf}
+use Rattle.context.specs.Calls.{genBuffers, buffer, ofBuffers, Call, object, takeError}
 use Rattle.context.specs.Rules.{errorCode}
 use Rattle.context.specs.Contract.{putBuffers, StillMakes, Did, Drew}
 
@@ -21,7 +21,7 @@ use Rattle.context.specs.Contract.{putBuffers, StillMakes, Did, Drew}
 -- the same store and, unless it is a bind that still makes its name, the same context.
 pub record Agree (call : Call) (c0 : Context) (s0 : List ℕ) (n n′ : ℕ) (c c′ : Context) (s s′ : List ℕ) : Type 0 where
   pub number : n ≡ n′
-  pub state : view c s ≡ view c′ s′
+  pub state : stateOf c s ≡ stateOf c′ s′
   pub stacks : c .stacks ≡ c′ .stacks
   pub parts : putBuffers (c′ .buffers) c ≡ c′
   pub slots : ofBuffers (λ k. true) call ≡ false → c ≡ c′
@@ -38,7 +38,7 @@ pub record Settles : Type 0 where
   pub draws : {d : DrawCall} {c : Context} {s : List ℕ} {r r′ : Drawn} {out out1 out1′ : List Float} → Drew d c s r out out1 → Drew d c s r′ out out1′
       → (r .count ≡ r′ .count) × (out1 ≡ out1′)
   -- and what two entries promise besides: gen's first name, and take_error's code
-  pub first : {m : ℕ} {c c1 c1′ : Context} {s s1 s1′ : List ℕ} {n n′ : ℕ} → Did (object (buffer (gen m))) c s n c1 s1 → Did (object (buffer (gen m))) c s n′ c1′ s1′
+  pub first : {m : ℕ} {c c1 c1′ : Context} {s s1 s1′ : List ℕ} {n n′ : ℕ} → Did (object (buffer (genBuffers m))) c s n c1 s1 → Did (object (buffer (genBuffers m))) c s n′ c1′ s1′
       → genFirst n (c .buffers .next) m ≡ genFirst n′ (c .buffers .next) m
   pub code : {c c1 c1′ : Context} {s s1 s1′ : List ℕ} {n n′ : ℕ} → Did takeError c s n c1 s1 → Did takeError c s n′ c1′ s1′
       → errorCode n (c .error) ≡ errorCode n′ (c .error)

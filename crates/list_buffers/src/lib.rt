@@ -10,7 +10,7 @@ ghost use Rattle.list_records.specs.Encoding.{dataOf, subDataOf, bufferOf};
 ghost use Rattle.list_records.specs.Perform.{bufferValue, Gives};
 
 fn make_gen(c: Context, n: usize) -> CallReply
-    ensures { λ r. ⌜ (r .known ≡ true) × Gives (Call.object (ObjectCall.buffer (BufferCall.gen n))) c (r .number) (r .value) (r .context) ⌝ }
+    ensures { λ r. ⌜ (r .known ≡ true) × Gives (Call.object (ObjectCall.buffer (BufferCall.genBuffers n))) c (r .number) (r .value) (r .context) ⌝ }
 {
     let g = gles_buffers::gen_buffers(c, n);
     let number = g.number;

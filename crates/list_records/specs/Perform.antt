@@ -10,7 +10,7 @@ use Rattle.buffers.specs.Objects.{genFirst}
 use Rattle.vertex.specs.Scene.{DrawCall}
 use Rattle.context.specs.declared.Context.{Context}
 use Rattle.context.specs.declared.DrawReply.{DrawReply}
-use Rattle.context.specs.Calls.{BufferCall, gen, bind, delete, bufferData, bufferSubData, ObjectCall, buffer, array}
+use Rattle.context.specs.Calls.{BufferCall, genBuffers, bindBuffer, deleteBuffers, bufferData, bufferSubData, ObjectCall, buffer, array}
 use Rattle.context.specs.Calls.{Call, matrix, mode, object, attribute, pipeline, takeError, draw}
 use Rattle.context.specs.Rules.{errorCode}
 use Rattle.context.specs.Contract.{Did, Does, drawReply}
@@ -30,9 +30,9 @@ isDraw (draw d) = true
 
 -- what a call that is no draw answers besides its number: gen its first name, take_error the code
 abbrev pub bufferValue : BufferCall → Context → ℕ → ℕ
-bufferValue (gen n) c number = genFirst number (c .buffers .next) n
-bufferValue (bind target name) c number = 0
-bufferValue (delete ns) c number = 0
+bufferValue (genBuffers n) c number = genFirst number (c .buffers .next) n
+bufferValue (bindBuffer target name) c number = 0
+bufferValue (deleteBuffers ns) c number = 0
 bufferValue (bufferData target size bytes usage) c number = 0
 bufferValue (bufferSubData target offset bytes) c number = 0
 

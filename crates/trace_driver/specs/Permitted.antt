@@ -32,11 +32,11 @@ storeCalls =
     ∷ 0x62 names true
     ∷ []
 
-unfoldable pub borrowsStore : ℕ → Bool
-borrowsStore code = rowOr storeCalls code false
+unfoldable pub codeBorrowsStore : ℕ → Bool
+codeBorrowsStore code = rowOr storeCalls code false
 
 unfoldable pub isMade : ℕ → ℕ → Bool
-isMade store code = eqb store storeBytes || (not (isCall code) || borrowsStore code)
+isMade store code = eqb store storeBytes || (not (isCall code) || codeBorrowsStore code)
 
 -- ---- the bounds that a state decides
 

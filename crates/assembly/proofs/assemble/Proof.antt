@@ -1,6 +1,6 @@
 -- `assembly::assemble` meets its contract, from what the inner functions ensure.
 use denote.Ref.{now}
-use Rattle.vertex.specs.Represented.{sceneIn}
+use Rattle.vertex.specs.SceneCode.{sceneIn}
 use Rattle.assembly.proofs.Fetching.{assembled}
 use borrow.Author.Needs.{needs}
 use Rattle.assembly.proofs.assemble.Statement.{statement}

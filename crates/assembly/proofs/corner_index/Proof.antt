@@ -5,7 +5,7 @@ use denote.Ref.{now}
 use lib.ListN.{getD}
 use borrow.Author.Tests.{lt-ltb}
 use Rattle.corners.specs.Places.{reach, cornerPlace}
-use Rattle.vertex.specs.Represented.{indexList}
+use Rattle.vertex.specs.SceneCode.{indexList}
 use borrow.Author.Needs.{needs}
 use Rattle.assembly.proofs.corner_index.Statement.{statement}
 use Rattle.assembly.proofs.corner_index.Tie as tie

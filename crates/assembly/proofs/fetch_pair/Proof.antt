@@ -4,8 +4,8 @@ use mathlib.Core.Path.{_≡_, sym, ap, _∙_}
 use denote.Ref.{now}
 use lib.ListN.{length}
 use Rattle.fetch.proofs.Parts.{part-length}
-use Rattle.fetch.specs.Places.{partSource}
-use Rattle.vertex.specs.Represented.{sceneIn}
+use Rattle.fetch.specs.FetchCode.{partSource}
+use Rattle.vertex.specs.SceneCode.{sceneIn}
 use Rattle.vertex.specs.Vertex.{elementOf}
 use Rattle.assembly.specs.Elements.{locationOf, Locates}
 use Rattle.assembly.specs.declared.Location.{Location}

@@ -10,7 +10,7 @@ use lib.Dec.{eqb}
 use Rattle.buffers.specs.Bounded.{first, firstFrom}
 use Rattle.vertex.specs.Scene.{Scene}
 use Rattle.vertex.specs.Questions.{fails}
-use Rattle.vertex.specs.Represented.{sceneIn, indexList}
+use Rattle.vertex.specs.SceneCode.{sceneIn, indexList}
 use Rattle.vertex.proofs.Search.{first-pass, first-found, first-none}
 use Rattle.assembly.specs.Elements.{PreparesFor}
 use Rattle.assembly.proofs.Fetching.{position-asked}

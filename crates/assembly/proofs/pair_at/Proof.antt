@@ -5,7 +5,7 @@ use denote.Ref.{now}
 use lib.Pow.{pow-pos}
 use borrow.Author.Tests.{not-true, not-false}
 use Rattle.fetch.specs.declared.ArrayPointer.{ArrayPointer}
-use Rattle.vertex.specs.Represented.{sceneIn}
+use Rattle.vertex.specs.SceneCode.{sceneIn}
 use Rattle.vertex.specs.Vertex.{elementOf, componentsOr, origin, pairFrom}
 use Rattle.assembly.proofs.Fetching.{own-array, pair-none, pair-off, pair-on}
 use borrow.Author.Needs.{needs}

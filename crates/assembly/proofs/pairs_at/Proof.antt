@@ -1,7 +1,7 @@
 -- `assembly::pairs_at` meets its contract, from what the inner functions ensure.
 use mathlib.Core.Path.{refl}
 use denote.Ref.{now}
-use Rattle.vertex.specs.Represented.{sceneIn}
+use Rattle.vertex.specs.SceneCode.{sceneIn}
 use Rattle.assembly.proofs.Fetching.{texcoords-are}
 use borrow.Author.Needs.{needs}
 use Rattle.assembly.proofs.pairs_at.Statement.{statement}

@@ -2,7 +2,7 @@
 use mathlib.Core.Path.{subst}
 use denote.Ref.{now}
 use Rattle.fetch.specs.declared.ArrayPointer.{ArrayPointer}
-use Rattle.vertex.specs.Represented.{sceneIn}
+use Rattle.vertex.specs.SceneCode.{sceneIn}
 use Rattle.assembly.specs.Elements.{PreparesFor}
 use borrow.Author.Needs.{needs}
 use Rattle.assembly.proofs.plan_of.Statement.{statement}

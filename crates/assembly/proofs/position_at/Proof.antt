@@ -3,7 +3,7 @@ use mathlib.Core.Bool.{false}
 use mathlib.Core.Path.{ap, _∙_}
 use denote.Ref.{now}
 use Rattle.fetch.specs.declared.ArrayPointer.{ArrayPointer}
-use Rattle.vertex.specs.Represented.{sceneIn}
+use Rattle.vertex.specs.SceneCode.{sceneIn}
 use Rattle.vertex.specs.Vertex.{elementOf}
 use Rattle.assembly.proofs.Fetching.{own-array, position-from}
 use borrow.Author.Needs.{needs}

@@ -1,6 +1,6 @@
 -- `assembly::position_number_at` meets its contract, from what the inner functions ensure.
 use denote.Ref.{now}
-use Rattle.vertex.specs.Represented.{sceneIn, indexList}
+use Rattle.vertex.specs.SceneCode.{sceneIn, indexList}
 use Rattle.assembly.proofs.Fetching.{position-asked}
 use borrow.Author.Needs.{needs}
 use Rattle.assembly.proofs.position_number_at.Statement.{statement}

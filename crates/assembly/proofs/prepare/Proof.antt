@@ -6,7 +6,7 @@ use denote.Ref.{now}
 use borrow.Author.Tests.{not-true, not-false}
 use Rattle.buffers.specs.Objects.{contentsOf}
 use Rattle.fetch.specs.Fetch.{partOf}
-use Rattle.fetch.specs.Places.{partSource}
+use Rattle.fetch.specs.FetchCode.{partSource}
 use Rattle.assembly.specs.Elements.{Prepares}
 use Rattle.assembly.specs.declared.Failure.{Failure}
 use Rattle.assembly.proofs.Addresses.{below}

@@ -9,7 +9,7 @@ use lib.Seq.{sets, length-sets}
 use Rattle.corners.specs.declared.Primitive.{Primitive}
 use Rattle.vertex.specs.Scene.{Scene}
 use Rattle.vertex.specs.Vertex.{vertexWords, vertexOf}
-use Rattle.vertex.specs.Represented.{sceneIn, indexList}
+use Rattle.vertex.specs.SceneCode.{sceneIn, indexList}
 use Rattle.vertex.specs.declared.Vertex.{Vertex}
 use Rattle.assembly.specs.Corners.{cornerIndex, cornerWords}
 use Rattle.assembly.proofs.Written.{sets-then, length-corners, corners-more}

@@ -5,7 +5,7 @@ use mathlib.Core.Path.{_≡_, refl, ap, _∙_}
 use native.Mathlib.Omega.{arith}
 use borrow.Author.Needs.{needs}
 use borrow.Author.Tests.{not-true, not-false, lt-ltb, le-ltb}
-use Rattle.buffers.specs.Objects.{objects, Sound, Answers, liveNames, genBuffers, answer}
+use Rattle.buffers.specs.Objects.{objects, Sound, Answers, liveNames, genAnswer, answer}
 use Rattle.buffers.proofs.Laws.{live-law}
 use Rattle.buffers.proofs.Binding.{answers-unsound, answers-same, answers-done}
 use Rattle.buffers.proofs.Free.{filled-same, filled-free}
@@ -61,7 +61,7 @@ loop-again c = left-less _ _ _ _ (c .before .before .before .loop .inv) (c .befo
 
 done : (c : tie.After-loop Inv-loop μ-loop) →
     let args = c .before .before .before .before .before .before .before .before .before .args in
-    Answers (args .b) (λ o. genBuffers o (args .n)) 0 (c .before .loop .out)
+    Answers (args .b) (λ o. genAnswer o (args .n)) 0 (c .before .loop .out)
 done c =
     answers-done _ _ (valid (c .before .before .before .before .before .before .before)) _
     (λ s. ap (answer 0) (left-none _ _ _ _ (c .before .loop .inv) (omega arith) s) ∙ gen-done _ _ (few (c .before .before .before .before) s) (c .before .before .if4 .left))
