@@ -319,7 +319,7 @@ fn without_elements(array: ArrayPointer, failure: Failure, stride: u32) -> Prepa
     }
 }
 
-// Finds what is the same for every index.
+// Finds what is the same for every index, in the order in which a fetch tests it.
 fn prepare(b: Buffers, store: &[u8], base: u32, guest: &[u8], array: ArrayPointer) -> Prepared
     ensures { λ r. ⌜ Prepares (contentsOf (b .slots) (now (store .entry))) base (now (store .entry)) (now (guest .entry)) array r ⌝ }
 {
@@ -418,7 +418,7 @@ fn element<'a>(store: &'a [u8], guest: &'a [u8], buffer: u32, at: usize, len: us
     }
 }
 
-// Element `index` of an array: as a position, as a colour (normalised), as a texture pair.
+// Element `index` of an array: as a position, as a colour (normalised), as a texture pair. `s` is for the contract alone: no code reads it.
 fn fetch_position<'a>(
     s: DrawInputs,
     e: Prepared,
@@ -640,7 +640,7 @@ fn pairs_at<'a>(s: DrawInputs, p: Plan, store: &'a [u8], guest: &'a [u8], index:
     [t0.s, t0.t, t1.s, t1.t, t2.s, t2.t, t3.s, t3.t]
 }
 
-// The vertex of an index.
+// The vertex of an index. The colour comes first: the compiler makes faster code of that order.
 fn assemble<'a>(s: DrawInputs, p: Plan, store: &'a [u8], guest: &'a [u8], index: u32) -> Vertex
     requires { ⌜ Plans (sceneIn s (now store) (now guest)) (now store) p ⌝ }
     ensures { λ r. ⌜ r ≡ vertexOf (sceneIn s (now (store .entry)) (now (guest .entry))) index ⌝ }
