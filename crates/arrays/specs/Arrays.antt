@@ -10,7 +10,6 @@ use Rattle.fetch.specs.declared.ArrayPointer.{ArrayPointer}
 use Rattle.fetch.specs.Fetch.{freshArray}
 use Rattle.arrays.specs.declared.Arrays.{Arrays}
 use Rattle.arrays.specs.declared.ArrayKind.{ArrayKind}
-use Rattle.arrays.specs.declared.ArrayChoice.{ArrayChoice}
 use Rattle.arrays.specs.declared.ArraysAnswer.{ArraysAnswer}
 
 -- how many texture units there are
@@ -99,9 +98,3 @@ arraysAnswered none a = arraysRefused a
 -- a call's number, and the arrays after it
 unfoldable pub arrayStep : ArrayCall → ℕ → Arrays → ArraysAnswer
 arrayStep call binding a = arraysAnswered (acceptedArrays call binding a) a
-
--- ---- for the code
-
-abbrev pub kindOf : ArrayChoice → Option ArrayKind
-kindOf (ArrayChoice.Known kind) = some kind
-kindOf ArrayChoice.Unknown = none

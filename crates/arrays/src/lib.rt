@@ -5,7 +5,8 @@ ghost use Prim.Native.Nat.{ℕ};
 ghost use lib.ListN.{getD};
 ghost use Rattle.number.specs.Tables.{lookup};
 ghost use Rattle.fetch.specs.Fetch.{freshArray};
-ghost use Rattle.arrays.specs.Arrays.{freshArrays, arrayOf, putArray, pointerSet, enabledSet, arrayKinds, kindOf, arraysDone, arraysRefused, arraysAnswered, arrayStep};
+ghost use Rattle.arrays.specs.Arrays.{freshArrays, arrayOf, putArray, pointerSet, enabledSet, arrayKinds, arraysDone, arraysRefused, arraysAnswered, arrayStep};
+ghost use Rattle.arrays.specs.ArraysCode.{kindOf};
 ghost use Rattle.arrays.specs.Arrays.{vertexPointer, colorPointer, normalPointer, texcoordPointer, clientState, clientUnit};
 ghost use Rattle.arrays.specs.Attributes.{noPair, freshAttributes, unitOf, attributeStep, AttributeCall};
 

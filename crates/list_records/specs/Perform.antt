@@ -13,7 +13,7 @@ use Rattle.context.specs.declared.DrawReply.{DrawReply}
 use Rattle.context.specs.Calls.{BufferCall, genBuffers, bindBuffer, deleteBuffers, bufferData, bufferSubData, ObjectCall, buffer, array}
 use Rattle.context.specs.Calls.{Call, matrix, mode, object, attribute, pipeline, takeError, draw}
 use Rattle.context.specs.Rules.{errorCode}
-use Rattle.context.specs.Contract.{Did, Does, drawReply}
+use Rattle.context.specs.Contract.{Did, drawReply}
 use Rattle.history.specs.Demand3.{DrawDid}
 use Rattle.list_records.specs.declared.CallReply.{CallReply}
 
@@ -45,11 +45,6 @@ valueOf (attribute k) c number = 0
 valueOf (pipeline k) c number = 0
 valueOf takeError c number = errorCode number (c .error)
 valueOf (draw d) c number = 0
-
--- for the code: a call that borrows neither store nor output, with its value
-pub record Gives (k : Call) (c : Context) (n value : ℕ) (c1 : Context) : Type 0 where
-  pub does : Does k c n c1
-  pub value-is : value ≡ valueOf k c n
 
 -- a draw, with the first f32 of the output
 pub record DrewIn (d : DrawCall) (c : Context) (s : List ℕ) (out : List Float) (r : DrawReply) (out1 : List Float) : Type 0 where

@@ -8,7 +8,8 @@ ghost use Rattle.context.specs.Calls.{Call, ObjectCall};
 ghost use Rattle.context.specs.Contract.{Does};
 ghost use Rattle.list_words.specs.Words.{wordAt, fourFloats};
 ghost use Rattle.list_records.specs.Encoding.{updateOf, matrixOf, arrayCallOf, attributeOf, pipelineOf, isRecord};
-ghost use Rattle.list_records.specs.Perform.{Gives, replyOf};
+ghost use Rattle.list_records.specs.Perform.{replyOf};
+ghost use Rattle.list_records.specs.PerformCode.{Gives};
 
 // What a call answers: besides its number the first name of gen_buffers, the code of take_error or the count of a draw. `known` is false where the words were no record's.
 pub struct CallReply {

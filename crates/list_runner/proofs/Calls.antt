@@ -22,7 +22,8 @@ use Rattle.context.specs.Calls.{BufferCall, buffer, array, Call, matrix, mode, 
 use Rattle.list_records.specs.declared.CallReply.{CallReply}
 use Rattle.list_words.specs.Words.{wordAt, fourFloats, matrixFloats}
 use Rattle.list_records.specs.Encoding.{updateOf, matrixOf, bufferOf, arrayCallOf, attributeOf, pipelineOf, sourceOf, drawOfWords, callOf, isRecord, recordCall}
-use Rattle.list_records.specs.Perform.{isDraw, valueOf, Gives, DrewIn, replyOf, called, drew, Performs, was-made, was-unknown}
+use Rattle.list_records.specs.Perform.{isDraw, valueOf, DrewIn, replyOf, called, drew, Performs, was-made, was-unknown}
+use Rattle.list_records.specs.PerformCode.{Gives}
 use Rattle.list_buffers.proofs.Answers.{Answers}
 use Rattle.list_runner.specs.Run.{Changes}
 
