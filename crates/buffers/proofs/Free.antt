@@ -9,7 +9,7 @@ use borrow.Author.Tests.{eq-eqb, ne-eqb}
 use Rattle.buffers.specs.Objects.{freeSlot, nameAt, lenAt, freeLen, FreeSlots}
 use Rattle.buffers.specs.ObjectsCode.{FreedAt, Freed, Filled}
 use Rattle.buffers.specs.declared.Slot.{Slot}
-use Rattle.buffers.proofs.Slots.{set-each}
+use Rattle.buffers.proofs.Slots.{slot, set-each}
 
 -- a slot that stays
 stayed : (before after : List Slot) (k : ℕ) → getD after k freeSlot ≡ getD before k freeSlot → nameAt after k ≡ 0 → lenAt after k ≡ freeLen before k
@@ -57,10 +57,11 @@ module _ (slots : List Slot) (k : ℕ) (x : Slot) (sized : length slots ≡ 16) 
   filled-set pos =
       record { each = λ j h. set-each slots k x sized within (λ y. y .name ≡ 0 → y ≡ getD slots j freeSlot) j (λ q z. absurd (omega arith)) (λ q z. refl) }
 
-pub freed-set : (slots : List Slot) (k : ℕ) → length slots ≡ 16 → k < 16 → 0 < nameAt slots k → Freed slots (set slots k freeSlot)
-freed-set slots k sized within pos =
+-- freed, with a length that is 0
+pub freed-set : (slots : List Slot) (k l : ℕ) → length slots ≡ 16 → k < 16 → 0 < nameAt slots k → l ≡ 0 → Freed slots (set slots k (slot 0 l))
+freed-set slots k l sized within pos empty =
     record {
       each = λ j h.
-          set-each slots k freeSlot sized within (λ y. (y ≡ getD slots j freeSlot) ⊎ ((0 < nameAt slots j) × (y ≡ freeSlot))) j
-          (λ q. inr (omega (arith, ap (nameAt slots) q), refl)) (λ q. inl refl);
+          set-each slots k (slot 0 l) sized within (λ y. (y ≡ getD slots j freeSlot) ⊎ ((0 < nameAt slots j) × (y ≡ freeSlot))) j
+          (λ q. inr (omega (arith, ap (nameAt slots) q), ap (slot 0) empty)) (λ q. inl refl);
     }
