@@ -14,19 +14,19 @@ use Rattle.arrays.specs.declared.ArrayKind.{ArrayKind}
 use Rattle.arrays.specs.declared.Attributes.{Attributes}
 use Rattle.arrays.specs.declared.AttributesAnswer.{AttributesAnswer}
 use Rattle.arrays.specs.Arrays.{unitCount, putArray, arrayKinds, withClientUnit, ArrayCall, vertexPointer, colorPointer, normalPointer}
-use Rattle.arrays.specs.Arrays.{texcoordPointer, clientState, clientUnit, accepted, answered, arrayStep}
-use Rattle.arrays.specs.Attributes.{AttributeCall, color, multiTexcoord, unitOf, answer, attributeStep}
+use Rattle.arrays.specs.Arrays.{texcoordPointer, clientState, clientUnit, acceptedArrays, arraysAnswered, arrayStep}
+use Rattle.arrays.specs.Attributes.{AttributeCall, color, multiTexcoord, unitOf, attributesAnswered, attributeStep}
 
 -- ---- a call is done, or refused with nothing changed
 
-answered-keeps : (o : Option Arrays) (a : Arrays) → (answered o a .number ≡ 0) ⊎ ((answered o a .number ≡ 0x0500) × (answered o a .arrays ≡ a))
+answered-keeps : (o : Option Arrays) (a : Arrays) → (arraysAnswered o a .number ≡ 0) ⊎ ((arraysAnswered o a .number ≡ 0x0500) × (arraysAnswered o a .arrays ≡ a))
 answered-keeps (some b) a = inl refl
 answered-keeps none a = inr (refl, refl)
 
 pub array-keeps : (call : ArrayCall) (binding : ℕ) (a : Arrays)
     → (arrayStep call binding a .number ≡ 0) ⊎ ((arrayStep call binding a .number ≡ 0x0500) × (arrayStep call binding a .arrays ≡ a))
 unfolding arrayStep
-array-keeps call binding a = answered-keeps (accepted call binding a) a
+array-keeps call binding a = answered-keeps (acceptedArrays call binding a) a
 
 pub attribute-keeps : (call : AttributeCall) (a : Attributes)
     → (attributeStep call a .number ≡ 0) ⊎ ((attributeStep call a .number ≡ 0x0500) × (attributeStep call a .attributes ≡ a))
@@ -34,8 +34,8 @@ unfolding attributeStep
 attribute-keeps (color value) a = inl refl
 attribute-keeps (multiTexcoord unit s t) a = go (ltb (unitOf unit) unitCount) _
   where
-    go : (b : Bool) (x : Attributes) → (cond b (answer 0 x) (answer 0x0500 a) .number ≡ 0)
-        ⊎ ((cond b (answer 0 x) (answer 0x0500 a) .number ≡ 0x0500) × (cond b (answer 0 x) (answer 0x0500 a) .attributes ≡ a))
+    go : (b : Bool) (x : Attributes) → (cond b (attributesAnswered 0 x) (attributesAnswered 0x0500 a) .number ≡ 0)
+        ⊎ ((cond b (attributesAnswered 0 x) (attributesAnswered 0x0500 a) .number ≡ 0x0500) × (cond b (attributesAnswered 0 x) (attributesAnswered 0x0500 a) .attributes ≡ a))
     go true x = inl refl
     go false x = inr (refl, refl)
 
@@ -43,7 +43,7 @@ attribute-keeps (multiTexcoord unit s t) a = go (ltb (unitOf unit) unitCount) _
 
 module _ (a : Arrays) (low : a .«client_active_texture» < unitCount) where
   abbrev Stays : Option Arrays → Type 0
-  Stays o = answered o a .arrays .«client_active_texture» < unitCount
+  Stays o = arraysAnswered o a .arrays .«client_active_texture» < unitCount
 
   put : (kind : ArrayKind) (p : ArrayPointer) → Stays (putArray kind p a)
   put ArrayKind.Vertex p = low
@@ -60,8 +60,8 @@ module _ (a : Arrays) (low : a .«client_active_texture» < unitCount) where
   selected unit true h = ltb-true unit unitCount h
   selected unit false h = low
 
-  stays : (call : ArrayCall) (binding : ℕ) → Stays (accepted call binding a)
-  unfolding accepted
+  stays : (call : ArrayCall) (binding : ℕ) → Stays (acceptedArrays call binding a)
+  unfolding acceptedArrays
   stays (vertexPointer size ty stride pointer) binding = low
   stays (colorPointer size ty stride pointer) binding = low
   stays (normalPointer ty stride pointer) binding = low

@@ -10,7 +10,6 @@ use Rattle.fetch.specs.declared.ArrayPointer.{ArrayPointer}
 use Rattle.fetch.specs.Fetch.{freshArray}
 use Rattle.arrays.specs.declared.Arrays.{Arrays}
 use Rattle.arrays.specs.declared.ArrayKind.{ArrayKind}
-use Rattle.arrays.specs.declared.ArrayChoice.{ArrayChoice}
 use Rattle.arrays.specs.declared.ArraysAnswer.{ArraysAnswer}
 
 -- how many texture units there are
@@ -74,34 +73,28 @@ abbrev pub withClientUnit : ℕ → Arrays → Arrays
 withClientUnit unit a = record { vertex = a .vertex; color = a .color; normal = a .normal; texcoord = a .texcoord; «client_active_texture» = unit }
 
 -- the arrays after a call while `binding` is the array binding, or none where it is refused: an unknown enumerant, or a unit from 4 on
-unfoldable pub accepted : ArrayCall → ℕ → Arrays → Option Arrays
-accepted (vertexPointer size ty stride pointer) binding a = pointerSet ArrayKind.Vertex size ty stride pointer binding a
-accepted (colorPointer size ty stride pointer) binding a = pointerSet ArrayKind.Color size ty stride pointer binding a
+unfoldable pub acceptedArrays : ArrayCall → ℕ → Arrays → Option Arrays
+acceptedArrays (vertexPointer size ty stride pointer) binding a = pointerSet ArrayKind.Vertex size ty stride pointer binding a
+acceptedArrays (colorPointer size ty stride pointer) binding a = pointerSet ArrayKind.Color size ty stride pointer binding a
 -- normals have size 3
-accepted (normalPointer ty stride pointer) binding a = pointerSet ArrayKind.Normal 3 ty stride pointer binding a
-accepted (texcoordPointer size ty stride pointer) binding a = pointerSet ArrayKind.TexCoord size ty stride pointer binding a
-accepted (clientState array on) binding a = bind (lookup arrayKinds array) (λ kind. enabledSet kind on a)
-accepted (clientUnit unit) binding a = cond (ltb unit unitCount) (some (withClientUnit unit a)) none
+acceptedArrays (normalPointer ty stride pointer) binding a = pointerSet ArrayKind.Normal 3 ty stride pointer binding a
+acceptedArrays (texcoordPointer size ty stride pointer) binding a = pointerSet ArrayKind.TexCoord size ty stride pointer binding a
+acceptedArrays (clientState array on) binding a = bind (lookup arrayKinds array) (λ kind. enabledSet kind on a)
+acceptedArrays (clientUnit unit) binding a = cond (ltb unit unitCount) (some (withClientUnit unit a)) none
 
 -- ---- the answers
 
-abbrev pub done : Arrays → ArraysAnswer
-done a = record { number = 0; arrays = a }
+abbrev pub arraysDone : Arrays → ArraysAnswer
+arraysDone a = record { number = 0; arrays = a }
 
 -- a refusal changes nothing
-abbrev pub refused : Arrays → ArraysAnswer
-refused a = record { number = 0x0500; arrays = a }
+abbrev pub arraysRefused : Arrays → ArraysAnswer
+arraysRefused a = record { number = 0x0500; arrays = a }
 
-abbrev pub answered : Option Arrays → Arrays → ArraysAnswer
-answered (some b) a = done b
-answered none a = refused a
+abbrev pub arraysAnswered : Option Arrays → Arrays → ArraysAnswer
+arraysAnswered (some b) a = arraysDone b
+arraysAnswered none a = arraysRefused a
 
 -- a call's number, and the arrays after it
 unfoldable pub arrayStep : ArrayCall → ℕ → Arrays → ArraysAnswer
-arrayStep call binding a = answered (accepted call binding a) a
-
--- ---- for the code
-
-abbrev pub kindOf : ArrayChoice → Option ArrayKind
-kindOf (ArrayChoice.Known kind) = some kind
-kindOf ArrayChoice.Unknown = none
+arrayStep call binding a = arraysAnswered (acceptedArrays call binding a) a

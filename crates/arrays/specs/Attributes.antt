@@ -26,13 +26,13 @@ pub data AttributeCall : Type 0 where
 abbrev pub unitOf : ℕ → ℕ
 unitOf code = code - 0x84C0
 
-abbrev pub answer : ℕ → Attributes → AttributesAnswer
-answer n a = record { number = n; attributes = a }
+abbrev pub attributesAnswered : ℕ → Attributes → AttributesAnswer
+attributesAnswered n a = record { number = n; attributes = a }
 
 -- a call's number, and the values after it; a refusal, of a unit from 4 on, changes nothing
 unfoldable pub attributeStep : AttributeCall → Attributes → AttributesAnswer
-attributeStep (color value) a = answer 0 (record { color = value; pairs = a .pairs })
+attributeStep (color value) a = attributesAnswered 0 (record { color = value; pairs = a .pairs })
 attributeStep (multiTexcoord unit s t) a =
     cond (ltb (unitOf unit) unitCount)
-    (answer 0 (record { color = a .color; pairs = set (a .pairs) (unitOf unit) (record { s = s; t = t }) }))
-    (answer 0x0500 a)
+    (attributesAnswered 0 (record { color = a .color; pairs = set (a .pairs) (unitOf unit) (record { s = s; t = t }) }))
+    (attributesAnswered 0x0500 a)

@@ -5,7 +5,8 @@ ghost use Prim.Native.Nat.{ℕ};
 ghost use lib.ListN.{getD};
 ghost use Rattle.number.specs.Tables.{lookup};
 ghost use Rattle.fetch.specs.Fetch.{freshArray};
-ghost use Rattle.arrays.specs.Arrays.{freshArrays, arrayOf, putArray, pointerSet, enabledSet, arrayKinds, kindOf, done, refused, answered, arrayStep};
+ghost use Rattle.arrays.specs.Arrays.{freshArrays, arrayOf, putArray, pointerSet, enabledSet, arrayKinds, arraysDone, arraysRefused, arraysAnswered, arrayStep};
+ghost use Rattle.arrays.specs.ArraysCode.{kindOf};
 ghost use Rattle.arrays.specs.Arrays.{vertexPointer, colorPointer, normalPointer, texcoordPointer, clientState, clientUnit};
 ghost use Rattle.arrays.specs.Attributes.{noPair, freshAttributes, unitOf, attributeStep, AttributeCall};
 
@@ -63,7 +64,7 @@ pub fn fresh_arrays() -> Arrays
 
 // The two answers of a call.
 fn accept(a: Arrays) -> ArraysAnswer
-    ensures { λ r. ⌜ r ≡ done a ⌝ }
+    ensures { λ r. ⌜ r ≡ arraysDone a ⌝ }
 {
     ArraysAnswer {
         number: 0,
@@ -72,7 +73,7 @@ fn accept(a: Arrays) -> ArraysAnswer
 }
 
 fn refuse(a: Arrays) -> ArraysAnswer
-    ensures { λ r. ⌜ r ≡ refused a ⌝ }
+    ensures { λ r. ⌜ r ≡ arraysRefused a ⌝ }
 {
     ArraysAnswer {
         number: INVALID_ENUM,
@@ -103,7 +104,7 @@ fn array_of(a: Arrays, kind: ArrayKind) -> ArrayPointer
 
 // The client unit's array replaced.
 fn put_client_array(a: Arrays, array: ArrayPointer) -> ArraysAnswer
-    ensures { λ r. ⌜ r ≡ answered (putArray ArrayKind.TexCoord array a) a ⌝ }
+    ensures { λ r. ⌜ r ≡ arraysAnswered (putArray ArrayKind.TexCoord array a) a ⌝ }
 {
     let i = a.client_active_texture as usize;
     if i < UNIT_COUNT {
@@ -115,7 +116,7 @@ fn put_client_array(a: Arrays, array: ArrayPointer) -> ArraysAnswer
 }
 
 fn put_array(a: Arrays, kind: ArrayKind, array: ArrayPointer) -> ArraysAnswer
-    ensures { λ r. ⌜ r ≡ answered (putArray kind array a) a ⌝ }
+    ensures { λ r. ⌜ r ≡ arraysAnswered (putArray kind array a) a ⌝ }
 {
     let mut out = a;
     match kind {
@@ -145,7 +146,7 @@ fn set_pointer(
     stride: u32,
     pointer: u32,
 ) -> ArraysAnswer
-    ensures { λ r. ⌜ r ≡ answered (pointerSet kind size ty stride pointer binding a) a ⌝ }
+    ensures { λ r. ⌜ r ≡ arraysAnswered (pointerSet kind size ty stride pointer binding a) a ⌝ }
 {
     let old = array_of(a, kind);
     let array = ArrayPointer {
@@ -217,7 +218,7 @@ pub fn set_texcoord_pointer(
 
 // An array switched on or off; its other fields stay.
 fn set_enabled(a: Arrays, kind: ArrayKind, on: bool) -> ArraysAnswer
-    ensures { λ r. ⌜ r ≡ answered (enabledSet kind on a) a ⌝ }
+    ensures { λ r. ⌜ r ≡ arraysAnswered (enabledSet kind on a) a ⌝ }
 {
     let mut array = array_of(a, kind);
     array.enabled = on;

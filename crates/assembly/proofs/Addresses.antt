@@ -8,7 +8,7 @@ use lib.Dec.{eqb, ltb}
 use lib.Pow.{pow-pos, pow-add}
 use borrow.Author.Tests.{lt-ltb, le-ltb, eq-eqb, ne-eqb, eqb-false}
 use Rattle.fetch.specs.Decode.{componentBytes}
-use Rattle.fetch.specs.Fetch.{Address, at, unknownType, overflow, lastAddress, elementBytes, strideOf, addressOf}
+use Rattle.fetch.specs.Fetch.{Address, addressAt, unknownType, overflow, lastAddress, elementBytes, strideOf, addressOf}
 use Rattle.fetch.specs.declared.ArrayPointer.{ArrayPointer}
 
 -- the product of two numbers of k bits has at most k + k
@@ -50,7 +50,7 @@ module _ (a : ArrayPointer) (index width : ℕ) (w : width ≡ componentBytes (a
               lt-ltb lastAddress (a .pointer + stride * index) k,
             )
 
-        pub there : a .pointer + stride * index ≤ lastAddress → addressOf a index ≡ at (a .pointer + stride * index) (width * a .size)
+        pub there : a .pointer + stride * index ≤ lastAddress → addressOf a index ≡ addressAt (a .pointer + stride * index) (width * a .size)
         unfolding addressOf
         there k =
             simp (

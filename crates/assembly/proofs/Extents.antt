@@ -12,7 +12,7 @@ use lib.ListN.{length, take, drop}
 use Rattle.buffers.specs.Objects.{contentsOf, slotOf, lenAt}
 use Rattle.buffers.specs.declared.Slot.{Slot}
 use Rattle.fetch.specs.Fetch.{Part, bytes, noBuffer, unreadable, inBuffer, inGuest, partOf}
-use Rattle.fetch.specs.Places.{partSource, heldBytes, slotExtent, extentOf}
+use Rattle.fetch.specs.FetchCode.{partSource, heldBytes, slotExtent, extentOf}
 use Rattle.fetch.specs.declared.Extent.{Extent}
 use Rattle.fetch.proofs.Parts.{none-slot, slot-short, slot-empty, slot-there, guest-low, guest-short, guest-there}
 

@@ -9,14 +9,15 @@ use Rattle.number.specs.Numbers.{magnitude}
 use Rattle.matrix.specs.Matrix.{at, transformRow, transformed}
 use Rattle.fetch.specs.Decode.{vectorOf}
 use Rattle.fetch.specs.Fetch.{positionNumber}
-use Rattle.fetch.specs.Places.{partSource}
+use Rattle.fetch.specs.FetchCode.{partSource}
 use Rattle.fetch.specs.declared.ArrayPointer.{ArrayPointer}
 use Rattle.fetch.specs.declared.Fetched.{Fetched}
 use Rattle.fetch.specs.declared.Vec4.{Vec4}
 use Rattle.arrays.specs.Attributes.{noPair}
 use Rattle.arrays.specs.declared.Pair.{Pair}
 use Rattle.vertex.specs.Scene.{Scene}
-use Rattle.vertex.specs.Vertex.{elementOf, positionOf, objectPosition, colorOf, componentsOr, origin, hasStage, pairFrom, transformedPair, stagePair, pairOf, pairWords, texcoordsOf, vertexOf}
+use Rattle.vertex.specs.Vertex.{elementOf, positionOf, objectPosition, colorOf, componentsOr, origin, hasStage, pairFrom, transformedPair, stagePair, pairOf, pairWords}
+use Rattle.vertex.specs.Vertex.{texcoordsOf, vertexOf}
 use Rattle.vertex.specs.Questions.{positionAt}
 use Rattle.vertex.specs.declared.Vertex.{Vertex}
 use Rattle.assembly.specs.Elements.{locationOf, Locates, PreparesFor, unitArray}

@@ -10,7 +10,7 @@ use lib.Dec.{eqb, ltb}
 use lib.ListN.{length, take, drop}
 use Rattle.fetch.specs.Decode.{componentBytes, vectorOf}
 use Rattle.fetch.specs.Fetch.{Part, Address, bytes, noBuffer, unreadable, lastAddress, elementBytes, strideOf, addressOf, partOf, decoded, fetchedAt, fetched}
-use Rattle.fetch.specs.Places.{partSource}
+use Rattle.fetch.specs.FetchCode.{partSource}
 use Rattle.fetch.specs.declared.ArrayPointer.{ArrayPointer}
 use Rattle.fetch.specs.declared.Extent.{Extent}
 use Rattle.fetch.specs.declared.Fetched.{Fetched}

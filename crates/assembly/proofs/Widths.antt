@@ -41,7 +41,8 @@ pub component-in : (w i size : ℕ) → i < size → w * i + w ≤ w * size
 component-in w i size h = let e : w * i + w ≡ w * suc i = sym (mul-suc w i) in rw e (mul-le-mul-left w h)
 
 -- a known type that is none of the other five
-pub last-type : (ty : ℕ) → 0 < componentBytes ty → (ty ≡ 0x1406 → ⊥) → (ty ≡ 0x1402 → ⊥) → (ty ≡ 0x1401 → ⊥) → (ty ≡ 0x140C → ⊥) → (ty ≡ 0x1400 → ⊥) → ty ≡ 0x1403
+pub last-type : (ty : ℕ) → 0 < componentBytes ty → (ty ≡ 0x1406 → ⊥) → (ty ≡ 0x1402 → ⊥)
+    → (ty ≡ 0x1401 → ⊥) → (ty ≡ 0x140C → ⊥) → (ty ≡ 0x1400 → ⊥) → ty ≡ 0x1403
 unfolding componentBytes
 last-type ty k a b c d e = go (eqb ty 0x1403) refl (simp (ne-eqb ty 0x1400 e, ne-eqb ty 0x1401 c, ne-eqb ty 0x1402 b, ne-eqb ty 0x1406 a, ne-eqb ty 0x140C d) at k)
   where

@@ -9,7 +9,7 @@ use lib.Dec.{eqb, ltb}
 use lib.ListN.{length, getD, take, drop}
 use Rattle.fetch.specs.Decode.{componentBytes, vectorOf}
 use Rattle.fetch.specs.Fetch.{freshArray, lastAddress, elementBytes, fetched}
-use Rattle.fetch.specs.Places.{partSource}
+use Rattle.fetch.specs.FetchCode.{partSource}
 use Rattle.fetch.specs.declared.ArrayPointer.{ArrayPointer}
 use Rattle.fetch.specs.declared.Fetched.{Fetched}
 use Rattle.vertex.specs.Scene.{Scene}

@@ -5,8 +5,8 @@ use corners::Primitive;
 use fetch::ArrayPointer;
 use fetch::Fetched;
 use fetch::Vec4;
+use vertex::DrawInputs;
 use vertex::Indices;
-use vertex::Scene;
 use vertex::Vertex;
 ghost use mathlib.Core.Path.{_≡_};
 ghost use mathlib.Core.Bool.{Bool, true, false, cond};
@@ -15,14 +15,15 @@ ghost use Prim.Native.Nat.{ℕ, _+_, _-_, _*_, _^_, _<_, _≤_, min};
 ghost use lib.Dec.{eqb, ltb, leb};
 ghost use lib.ListN.{length, take, drop};
 ghost use lib.Seq.{sets};
-ghost use Rattle.number.specs.Numbers.{le, signedAt};
+ghost use Rattle.number.specs.Numbers.{littleEndian, signedAt};
 ghost use Rattle.buffers.specs.Bounded.{first};
 ghost use Rattle.buffers.specs.Objects.{contentsOf};
 ghost use Rattle.fetch.specs.Decode.{componentBytes, unsignedComponent, signedComponent, componentOf, component, vectorOf};
 ghost use Rattle.fetch.specs.Fetch.{lastAddress, positionNumber};
-ghost use Rattle.fetch.specs.Places.{partSource};
-ghost use Rattle.vertex.specs.Represented.{sceneIn, indexList};
-ghost use Rattle.vertex.specs.Vertex.{elementOf, objectPosition, colorOf, componentsOr, origin, hasStage, pairFrom, transformedPair, pairOf, pairWords, texcoordsOf, vertexOf, four, vertexWords};
+ghost use Rattle.fetch.specs.FetchCode.{partSource};
+ghost use Rattle.vertex.specs.SceneCode.{sceneIn, indexList};
+ghost use Rattle.vertex.specs.Vertex.{elementOf, objectPosition, colorOf, componentsOr, origin, hasStage, pairFrom, transformedPair};
+ghost use Rattle.vertex.specs.Vertex.{pairOf, pairWords, texcoordsOf, vertexOf, four, vertexWords};
 ghost use Rattle.vertex.specs.Questions.{positionAt, fails, hasVertices, listNumber};
 ghost use Rattle.assembly.specs.Elements.{OneTwoFour, stepOf, missingAt, locationOf, Locates, Prepares, PreparesFor, unitArray, Plans};
 ghost use Rattle.assembly.specs.Corners.{cornerIndex, cornersWritten, cornerWords};
@@ -45,7 +46,7 @@ fn component_bytes(ty: u32) -> u32
 // The little-endian number of 1, 2 or 4 bytes.
 fn number_at(s: &[u8], at: usize, width: u32) -> u32
     requires { ⌜ (at + width ≤ length (now s)) × OneTwoFour width ⌝ }
-    ensures { λ r. ⌜ (r ≡ le (take width (drop at (now (s .entry))))) × (r < 256 ^ width) ⌝ }
+    ensures { λ r. ⌜ (r ≡ littleEndian (take width (drop at (now (s .entry))))) × (r < 256 ^ width) ⌝ }
 {
     if width == 1 {
         return s[at] as u32;
@@ -318,7 +319,7 @@ fn without_elements(array: ArrayPointer, failure: Failure, stride: u32) -> Prepa
     }
 }
 
-// Finds what is the same for every index.
+// Finds what is the same for every index, in the order in which a fetch tests it.
 fn prepare(b: Buffers, store: &[u8], base: u32, guest: &[u8], array: ArrayPointer) -> Prepared
     ensures { λ r. ⌜ Prepares (contentsOf (b .slots) (now (store .entry))) base (now (store .entry)) (now (guest .entry)) array r ⌝ }
 {
@@ -417,9 +418,9 @@ fn element<'a>(store: &'a [u8], guest: &'a [u8], buffer: u32, at: usize, len: us
     }
 }
 
-// Element `index` of an array: as a position, as a colour (normalised), as a texture pair.
+// Element `index` of an array: as a position, as a colour (normalised), as a texture pair. `s` is for the contract alone: no code reads it.
 fn fetch_position<'a>(
-    s: Scene,
+    s: DrawInputs,
     e: Prepared,
     store: &'a [u8],
     guest: &'a [u8],
@@ -442,7 +443,13 @@ fn fetch_position<'a>(
     }
 }
 
-fn fetch_color<'a>(s: Scene, e: Prepared, store: &'a [u8], guest: &'a [u8], index: u32) -> Fetched
+fn fetch_color<'a>(
+    s: DrawInputs,
+    e: Prepared,
+    store: &'a [u8],
+    guest: &'a [u8],
+    index: u32,
+) -> Fetched
     requires { ⌜ PreparesFor (sceneIn s (now store) (now guest)) (now store) (e .array) e ⌝ }
     ensures { λ r. ⌜ r ≡ elementOf (sceneIn s (now (store .entry)) (now (guest .entry))) (e .array) index true ⌝ }
 {
@@ -460,7 +467,13 @@ fn fetch_color<'a>(s: Scene, e: Prepared, store: &'a [u8], guest: &'a [u8], inde
     }
 }
 
-fn fetch_pair<'a>(s: Scene, e: Prepared, store: &'a [u8], guest: &'a [u8], index: u32) -> Fetched
+fn fetch_pair<'a>(
+    s: DrawInputs,
+    e: Prepared,
+    store: &'a [u8],
+    guest: &'a [u8],
+    index: u32,
+) -> Fetched
     requires { ⌜ PreparesFor (sceneIn s (now store) (now guest)) (now store) (e .array) e ⌝ }
     ensures { λ r. ⌜ r ≡ elementOf (sceneIn s (now (store .entry)) (now (guest .entry))) (e .array) index false ⌝ }
 {
@@ -479,7 +492,13 @@ fn fetch_pair<'a>(s: Scene, e: Prepared, store: &'a [u8], guest: &'a [u8], index
 }
 
 // A position that cannot be fetched counts as 0, 0, 0, 1; a draw with one is refused.
-fn position_at<'a>(s: Scene, e: Prepared, store: &'a [u8], guest: &'a [u8], index: u32) -> [f32; 4]
+fn position_at<'a>(
+    s: DrawInputs,
+    e: Prepared,
+    store: &'a [u8],
+    guest: &'a [u8],
+    index: u32,
+) -> [f32; 4]
     requires { ⌜ PreparesFor (sceneIn s (now store) (now guest)) (now store) (s .arrays .vertex) e ⌝ }
     ensures { λ r. ⌜ r ≡ objectPosition (sceneIn s (now (store .entry)) (now (guest .entry))) index ⌝ }
 {
@@ -494,7 +513,13 @@ fn position_at<'a>(s: Scene, e: Prepared, store: &'a [u8], guest: &'a [u8], inde
 }
 
 // The colour of an index: the array's where it is enabled and can be fetched, else the current one.
-fn color_at<'a>(s: Scene, e: Prepared, store: &'a [u8], guest: &'a [u8], index: u32) -> [f32; 4]
+fn color_at<'a>(
+    s: DrawInputs,
+    e: Prepared,
+    store: &'a [u8],
+    guest: &'a [u8],
+    index: u32,
+) -> [f32; 4]
     requires { ⌜ PreparesFor (sceneIn s (now store) (now guest)) (now store) (s .arrays .color) e ⌝ }
     ensures { λ r. ⌜ r ≡ colorOf (sceneIn s (now (store .entry)) (now (guest .entry))) index ⌝ }
 {
@@ -529,7 +554,7 @@ fn transform_pair(m: [f32; 16], p: Pair) -> Pair
 }
 
 // The first two components of an element; 0, 0 where it cannot be fetched.
-fn coordinates<'a>(s: Scene, e: Prepared, store: &'a [u8], guest: &'a [u8], index: u32) -> Pair
+fn coordinates<'a>(s: DrawInputs, e: Prepared, store: &'a [u8], guest: &'a [u8], index: u32) -> Pair
     requires { ⌜ PreparesFor (sceneIn s (now store) (now guest)) (now store) (e .array) e ⌝ }
     ensures { λ r. ⌜ r ≡ pairFrom (componentsOr (elementOf (sceneIn s (now (store .entry)) (now (guest .entry))) (e .array) index false) origin) ⌝ }
 {
@@ -545,7 +570,7 @@ fn coordinates<'a>(s: Scene, e: Prepared, store: &'a [u8], guest: &'a [u8], inde
 
 // The pair of a unit, whose bit in the mask of stages is `place`.
 fn pair_at<'a>(
-    s: Scene,
+    s: DrawInputs,
     e: Prepared,
     store: &'a [u8],
     guest: &'a [u8],
@@ -577,7 +602,7 @@ pub struct Plan {
     pub unit3: Prepared,
 }
 
-fn plan_of(s: Scene, store: &[u8], guest: &[u8]) -> Plan
+fn plan_of(s: DrawInputs, store: &[u8], guest: &[u8]) -> Plan
     ensures { λ r. ⌜ Plans (sceneIn s (now (store .entry)) (now (guest .entry))) (now (store .entry)) r ⌝ }
 {
     let b = s.buffers;
@@ -600,7 +625,7 @@ fn plan_of(s: Scene, store: &[u8], guest: &[u8]) -> Plan
 }
 
 // The four pairs of an index, by unit.
-fn pairs_at<'a>(s: Scene, p: Plan, store: &'a [u8], guest: &'a [u8], index: u32) -> [f32; 8]
+fn pairs_at<'a>(s: DrawInputs, p: Plan, store: &'a [u8], guest: &'a [u8], index: u32) -> [f32; 8]
     requires { ⌜ Plans (sceneIn s (now store) (now guest)) (now store) p ⌝ }
     ensures { λ r. ⌜ r ≡ texcoordsOf (sceneIn s (now (store .entry)) (now (guest .entry))) index ⌝ }
 {
@@ -615,8 +640,8 @@ fn pairs_at<'a>(s: Scene, p: Plan, store: &'a [u8], guest: &'a [u8], index: u32)
     [t0.s, t0.t, t1.s, t1.t, t2.s, t2.t, t3.s, t3.t]
 }
 
-// The vertex of an index.
-fn assemble<'a>(s: Scene, p: Plan, store: &'a [u8], guest: &'a [u8], index: u32) -> Vertex
+// The vertex of an index. The colour comes first: the compiler makes faster code of that order.
+fn assemble<'a>(s: DrawInputs, p: Plan, store: &'a [u8], guest: &'a [u8], index: u32) -> Vertex
     requires { ⌜ Plans (sceneIn s (now store) (now guest)) (now store) p ⌝ }
     ensures { λ r. ⌜ r ≡ vertexOf (sceneIn s (now (store .entry)) (now (guest .entry))) index ⌝ }
 {
@@ -652,7 +677,7 @@ fn location_number(location: Location) -> u32
 
 // The number of the position at a place of the index list, 0 where it can be fetched.
 fn position_number_at<'a>(
-    s: Scene,
+    s: DrawInputs,
     store: &'a [u8],
     guest: &'a [u8],
     kind: Indices,
@@ -670,7 +695,7 @@ fn position_number_at<'a>(
 
 // The first of n places whose position cannot be fetched, or n.
 fn first_failing<'a>(
-    s: Scene,
+    s: DrawInputs,
     store: &'a [u8],
     guest: &'a [u8],
     kind: Indices,
@@ -711,7 +736,7 @@ fn has_vertices(a: ArrayPointer) -> bool
 
 // The number of the first test that fails, 0 where all pass. The room in the output is tested after them.
 pub fn validate<'a>(
-    s: Scene,
+    s: DrawInputs,
     store: &'a [u8],
     guest: &'a [u8],
     mode: u32,
@@ -776,7 +801,7 @@ fn corner_index(p: Primitive, kind: Indices, list: &[u32], elements: &[u8], c: u
 
 // Writes the first n corners.
 fn write_planned<'a>(
-    s: Scene,
+    s: DrawInputs,
     plan: Plan,
     store: &'a [u8],
     guest: &'a [u8],
@@ -802,7 +827,7 @@ fn write_planned<'a>(
 
 // Writes the first n corners of the index list's triangles; nothing where the output has no room for them.
 pub fn write_corners<'a>(
-    s: Scene,
+    s: DrawInputs,
     store: &'a [u8],
     guest: &'a [u8],
     p: Primitive,

@@ -9,7 +9,8 @@ use lib.Dec.{ltb}
 use lib.ListN.{length}
 use borrow.Author.Tests.{ltb-true, ltb-false}
 use Rattle.number.specs.Decides.{Decides}
-use Rattle.buffers.specs.Objects.{nameAt, slotOf, Bindable, Sound, SoundIs, SlotSound}
+use Rattle.buffers.specs.Objects.{nameAt, slotOf, Bindable, Sound, SoundIs}
+use Rattle.buffers.specs.ObjectsCode.{SlotSound}
 use Rattle.buffers.specs.declared.Slot.{Slot}
 use Rattle.buffers.specs.declared.Buffers.{Buffers}
 use Rattle.buffers.proofs.Bounds.{never}

@@ -9,7 +9,8 @@ use native.Mathlib.Omega.{arith}
 use lib.Dec.{eqb, ltb}
 use borrow.Author.Tests.{ltb-true, lt-ltb, not-true, eq-eqb, ne-eqb}
 use Rattle.buffers.specs.Bounded.{count}
-use Rattle.buffers.specs.Objects.{Objects, objects, absent, nameAt, slotOf, contentsOf, liveIn, liveNames, make, answer, genNames, genBuffers, deleteName, roomFor, Sound}
+use Rattle.buffers.specs.Objects.{Objects, objects, absent, nameAt, slotOf, contentsOf, liveNames, make, answer, genNames, genAnswer, deleteName, roomFor, Sound}
+use Rattle.buffers.specs.ObjectsCode.{liveIn}
 use Rattle.buffers.specs.declared.Buffers.{Buffers}
 use Rattle.buffers.proofs.Bounds.{never, same?, count-ext, count-more, count-le, count-suc, count-image}
 use Rattle.buffers.proofs.Slots.{slot-cases, contents-none, contents-zero, contents-at}
@@ -95,8 +96,8 @@ gen-names (suc n) o =
     }
 
 -- So does an accepted gen.
-pub gen-law : (o : Objects) (n : ℕ) → genBuffers o n .number ≡ 0 → GenMade o n (genBuffers o n .after)
-unfolding genBuffers
+pub gen-law : (o : Objects) (n : ℕ) → genAnswer o n .number ≡ 0 → GenMade o n (genAnswer o n .after)
+unfolding genAnswer
 gen-law o n done = go (ltb 16 (liveNames o + n)) (ltb 4294967295 (o .next + n)) done
   where
     go : (x y : Bool) → cond x (answer 4 o) (cond y (answer 5 o) (answer 0 (genNames n o))) .number ≡ 0

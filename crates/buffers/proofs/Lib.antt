@@ -1,6 +1,7 @@
 -- Laws that several proofs share.
 pub mod Bounds
 pub mod Slots
+pub mod Free
 pub mod Laws
 pub mod Naming
 pub mod Binding

@@ -1,26 +1,36 @@
 -- The four ways to make a name live.
 use Prim.Native.Nat.{ℕ, _+_, _<_, _≤_, max}
 use mathlib.Core.Bool.{true, false}
+use mathlib.Core.List.{List}
 use mathlib.Core.Path.{_≡_, refl, sym, ap, _∙_, fun-ext}
 use mathlib.Core.Logic.{inl, inr}
 use native.Mathlib.Omega.{arith}
 use lib.ListN.{length, set}
 use borrow.Author.Tests.{lt-ltb, eq-eqb, ne-eqb}
-use Rattle.buffers.specs.Objects.{objects, nameAt, slotOf, liveNames, named, Bindable, Sound, Made}
+use Rattle.buffers.specs.Objects.{Objects, objects, absent, nameAt, slotOf, contentsOf, liveNames, named, Bindable, Sound}
+use Rattle.buffers.specs.ObjectsCode.{MakesName}
 use Rattle.buffers.specs.declared.Buffers.{Buffers}
 use Rattle.buffers.proofs.Bounds.{never}
-use Rattle.buffers.proofs.Slots.{slot, slot-found, slot-unknown, contents-none, contents-some, contents-put, live-here, bindable-set}
+use Rattle.buffers.proofs.Slots.{slot, Unknown, slot-found, slot-unknown, contents-none, contents-some, contents-put, live-here, bindable-set}
 use Rattle.buffers.proofs.Slots.{sound-with, sound-set, live-room, live-full}
+use Rattle.buffers.proofs.Free.{filled-same, filled-set}
 use Rattle.buffers.proofs.Laws.{live-law}
 
+-- a name that is made was absent and is live
+unlike : (b : Buffers) (n : ℕ) → (n ≡ 0 → ⊥) → Unknown (b .slots) n → (s : List ℕ) → named (objects b s) n ≡ objects b s → ⊥
+unfolding named
+unlike b n z unknown s q =
+    never (absent (contentsOf (b .slots) s n)) (simp (contents-none (b .slots) s n unknown))
+    (sym (ap (λ (o : Objects). absent (o .contents n)) q) ∙ simp (ne-eqb n 0 z, contents-none (b .slots) s n unknown, eq-eqb n n refl))
+
 module _ (b : Buffers) (sound : Sound b) (n : ℕ) where
-  pub made-zero : n ≡ 0 → Made b n true b
+  pub made-zero : n ≡ 0 → MakesName b n true b
   unfolding named
-  made-zero e = record { room = λ s. simp (eq-eqb n 0 e); state = λ s. simp (eq-eqb n 0 e); sound = sound; bound = λ h. inl e }
+  made-zero e = record { room = λ s. simp (eq-eqb n 0 e); state = λ s. simp (eq-eqb n 0 e); sound = sound; bound = λ h. inl e; slots = filled-same; stays = λ s q. refl }
 
   module _ (z : n ≡ 0 → ⊥) (k : ℕ) (found : k ≡ slotOf (b .slots) n) where
     pub made-live : (next : ℕ) → k < 16 → next ≡ max (b .next) (n + 1)
-        → Made b n true (record { slots = b .slots; next = next; «array_buffer» = b .«array_buffer»; «element_buffer» = b .«element_buffer» })
+        → MakesName b n true (record { slots = b .slots; next = next; «array_buffer» = b .«array_buffer»; «element_buffer» = b .«element_buffer» })
     unfolding named
     made-live next h lifted =
         let pos : 0 < n = omega (arith, z) in
@@ -30,20 +40,34 @@ module _ (b : Buffers) (sound : Sound b) (n : ℕ) where
           state = λ s. simp (ne-eqb n 0 z, contents-some (b .slots) s n pos within, lifted);
           sound = sound-with b sound next _ _ (omega arith) (sound .array-live) (sound .element-live);
           bound = λ q. inr (record { slot = slotOf (b .slots) n; within = within; holds = slot-found (b .slots) n within; nonzero = pos });
+          slots = filled-same;
+          stays = λ s q i. record {
+            slots = b .slots;
+            next = (lifted ∙ below) i;
+            «array_buffer» = b .«array_buffer»;
+            «element_buffer» = b .«element_buffer»;
+          };
         }
+      where
+        below : max (b .next) (n + 1) ≡ b .next
+        below =
+            let within : slotOf (b .slots) n < 16 = omega arith in
+            omega (arith, slot-found (b .slots) n within, sound .below (slotOf (b .slots) n) within)
 
     module _ (new : 16 ≤ k) (f : ℕ) (first-free : f ≡ slotOf (b .slots) 0) where
-      pub made-full : 16 ≤ f → Made b n false b
+      pub made-full : 16 ≤ f → MakesName b n false b
       made-full h =
           record {
             room = λ s. simp (ne-eqb n 0 z, contents-none (b .slots) s n (slot-unknown (b .slots) n (omega arith)), sym (live-law b sound s) ∙ live-full (b .slots) (omega arith));
             state = λ s. refl;
             sound = sound;
             bound = λ q. never false q refl;
+            slots = filled-same;
+            stays = λ s q. refl;
           }
 
       pub made-new : length (b .slots) ≡ 16 → (next : ℕ) → f < 16 → next ≡ max (b .next) (n + 1)
-          → Made b n true (record { slots = set (b .slots) f (slot n 0); next = next; «array_buffer» = b .«array_buffer»; «element_buffer» = b .«element_buffer» })
+          → MakesName b n true (record { slots = set (b .slots) f (slot n 0); next = next; «array_buffer» = b .«array_buffer»; «element_buffer» = b .«element_buffer» })
       unfolding named
       made-new sized next h lifted =
           let pos : 0 < n = omega (arith, z) in
@@ -66,4 +90,6 @@ module _ (b : Buffers) (sound : Sound b) (n : ℕ) where
             sound = sound-set b sound f (slot n 0) sized h (λ j l q p. unknown j l) (omega arith) next _ _ (omega arith) (omega arith)
                 (still (b .«array_buffer») (sound .array-live)) (still (b .«element_buffer») (sound .element-live));
             bound = λ q. inr (live-here (b .slots) f (slot n 0) sized h pos);
+            slots = filled-set (b .slots) f (slot n 0) sized h pos;
+            stays = λ s q. absurd (unlike b n z unknown s q);
           }

@@ -10,47 +10,51 @@ use lib.Dec.{eqb}
 use lib.ListN.{length, getD, drop, set, drop-of-length-le}
 use lib.Seq.{drop-cons}
 use borrow.Author.Tests.{eq-eqb, ne-eqb}
-use Rattle.buffers.specs.Objects.{Objects, freeSlot, nameAt, slotOf, Bindable, Sound, deleteName, deleteNames, Steps}
+use Rattle.buffers.specs.Objects.{Objects, nameAt, slotOf, Bindable, Sound, deleteName, deleteNames}
+use Rattle.buffers.specs.ObjectsCode.{Steps}
 use Rattle.buffers.specs.declared.Buffers.{Buffers}
 use Rattle.buffers.proofs.Bounds.{same?}
-use Rattle.buffers.proofs.Slots.{slot-found, slot-unknown, contents-none, contents-some, contents-free, bindable-set, sound-set}
+use Rattle.buffers.proofs.Slots.{slot, slot-found, slot-unknown, contents-none, contents-some, contents-free, bindable-set, sound-set}
+use Rattle.buffers.proofs.Free.{freed-same, freed-set}
 
 module _ (b : Buffers) (n : ℕ) (sound : Sound b) where
   pub skip-zero : n ≡ 0 → Steps b (λ o. deleteName o n) b
   unfolding deleteName
-  skip-zero z = record { state = λ s. simp (eq-eqb n 0 z); sound = sound }
+  skip-zero z = record { state = λ s. simp (eq-eqb n 0 z); sound = sound; slots = freed-same }
 
   module _ (z : n ≡ 0 → ⊥) (k : ℕ) (found : k ≡ slotOf (b .slots) n) where
     pub skip-unknown : 16 ≤ k → Steps b (λ o. deleteName o n) b
     unfolding deleteName
-    skip-unknown h = record { state = λ s. simp (ne-eqb n 0 z, contents-none (b .slots) s n (slot-unknown (b .slots) n (omega arith))); sound = sound }
+    skip-unknown h = record { state = λ s. simp (ne-eqb n 0 z, contents-none (b .slots) s n (slot-unknown (b .slots) n (omega arith))); sound = sound; slots = freed-same }
 
     module _ (sized : length (b .slots) ≡ 16) (within : k < 16) where
       old : nameAt (b .slots) k ≡ n
       old = ap (nameAt (b .slots)) found ∙ slot-found (b .slots) n (omega arith)
 
-      bindable-free : (a : ℕ) → Bindable (b .slots) a → Bindable (set (b .slots) k freeSlot) (cond (eqb a n) 0 a)
-      bindable-free a l =
+      bindable-free : (l a : ℕ) → Bindable (b .slots) a → Bindable (set (b .slots) k (slot 0 l)) (cond (eqb a n) 0 a)
+      bindable-free l a live =
           ⊎-elim (λ q. inl (simp (eq-eqb a n q)))
-          (λ q. rw (ne-eqb a n q) (bindable-set (b .slots) k freeSlot sized within a (λ p e. absurd (q (e ∙ old))) l))
+          (λ q. rw (ne-eqb a n q) (bindable-set (b .slots) k (slot 0 l) sized within a (λ p e. absurd (q (e ∙ old))) live))
           (same? a n)
 
-      pub deleted : (x y : ℕ) → x ≡ cond (eqb (b .«array_buffer») n) 0 (b .«array_buffer») → y ≡ cond (eqb (b .«element_buffer») n) 0 (b .«element_buffer»)
-          → Steps b (λ o. deleteName o n) (record { slots = set (b .slots) k freeSlot; next = b .next; «array_buffer» = x; «element_buffer» = y })
+      -- only the line on the slots asks that the length is 0
+      pub deleted : (l : ℕ) → l ≡ 0 → (x y : ℕ) → x ≡ cond (eqb (b .«array_buffer») n) 0 (b .«array_buffer») → y ≡ cond (eqb (b .«element_buffer») n) 0 (b .«element_buffer»)
+          → Steps b (λ o. deleteName o n) (record { slots = set (b .slots) k (slot 0 l); next = b .next; «array_buffer» = x; «element_buffer» = y })
       unfolding deleteName
-      deleted x y ex ey =
+      deleted l empty x y ex ey =
           let pos : 0 < n = omega (arith, z) in
           record {
             state = λ s.
                 (λ i. record {
                   next = b .next;
-                  contents = fun-ext (contents-free (b .slots) k freeSlot sized within (sound .once) (λ j h q p e. omega arith) s s (λ j h q p. refl) refl n pos old) i;
+                  contents = fun-ext (contents-free (b .slots) k (slot 0 l) sized within (sound .once) (λ j h q p e. omega arith) s s (λ j h q p. refl) refl n pos old) i;
                   array = ex i;
                   element = ey i;
                 })
                 ∙ simp (ne-eqb n 0 z, contents-some (b .slots) s n pos (omega arith));
-            sound = sound-set b sound k freeSlot sized within (λ j h q p e. omega arith) (omega arith) (b .next) x y (omega arith) (sound .started)
-                (rw ex (bindable-free (b .«array_buffer») (sound .array-live))) (rw ey (bindable-free (b .«element_buffer») (sound .element-live)));
+            sound = sound-set b sound k (slot 0 l) sized within (λ j h q p e. omega arith) (omega arith) (b .next) x y (omega arith) (sound .started)
+                (rw ex (bindable-free l (b .«array_buffer») (sound .array-live))) (rw ey (bindable-free l (b .«element_buffer») (sound .element-live)));
+            slots = freed-set (b .slots) k l sized within (omega (arith, old, pos)) empty;
           }
 
 -- names deleted one by one

@@ -11,7 +11,8 @@ use lib.ListN.{length, getD, take, drop, set}
 use lib.Seq.{getD-set-same, getD-set-other}
 use borrow.Author.Tests.{eqb-true, eqb-false, lt-ltb, le-ltb, eq-eqb, ne-eqb}
 use Rattle.buffers.specs.Bounded.{count}
-use Rattle.buffers.specs.Objects.{freeSlot, nameAt, slotOf, bytesAt, contentsOf, liveIn, Live, Bindable, Sound}
+use Rattle.buffers.specs.Objects.{freeSlot, nameAt, slotOf, bytesInSlot, contentsOf, Live, Bindable, Sound}
+use Rattle.buffers.specs.ObjectsCode.{liveIn}
 use Rattle.buffers.specs.declared.Slot.{Slot}
 use Rattle.buffers.specs.declared.Buffers.{Buffers}
 use Rattle.buffers.proofs.Bounds.{same?, first-cases, count-short, count-full}
@@ -53,7 +54,7 @@ pub contents-none : (slots : List Slot) (s : List ℕ) (n : ℕ) → Unknown slo
 unfolding contentsOf
 contents-none slots s n h = go (eqb n 0)
   where
-    go : (t : Bool) → cond t none (cond (ltb (slotOf slots n) 16) (some (bytesAt slots s (slotOf slots n))) none) ≡ none
+    go : (t : Bool) → cond t none (cond (ltb (slotOf slots n) 16) (some (bytesInSlot slots s (slotOf slots n))) none) ≡ none
     go true = refl
     go false = ⊎-elim (λ f. simp (f .0)) (λ f. absurd (h (slotOf slots n) (f .0) (f .1))) (slot-cases slots n)
 
@@ -61,13 +62,13 @@ pub contents-zero : (slots : List Slot) (s : List ℕ) (n : ℕ) → n ≡ 0 →
 unfolding contentsOf
 contents-zero slots s n z = simp (eq-eqb n 0 z)
 
-pub contents-some : (slots : List Slot) (s : List ℕ) (n : ℕ) → 0 < n → slotOf slots n < 16 → contentsOf slots s n ≡ some (bytesAt slots s (slotOf slots n))
+pub contents-some : (slots : List Slot) (s : List ℕ) (n : ℕ) → 0 < n → slotOf slots n < 16 → contentsOf slots s n ≡ some (bytesInSlot slots s (slotOf slots n))
 unfolding contentsOf
 contents-some slots s n pos h = simp (ne-eqb n 0 (omega arith), lt-ltb (slotOf slots n) 16 h)
 
-pub contents-at : (slots : List Slot) → Once slots → (s : List ℕ) (n k : ℕ) → 0 < n → k < 16 → nameAt slots k ≡ n → contentsOf slots s n ≡ some (bytesAt slots s k)
+pub contents-at : (slots : List Slot) → Once slots → (s : List ℕ) (n k : ℕ) → 0 < n → k < 16 → nameAt slots k ≡ n → contentsOf slots s n ≡ some (bytesInSlot slots s k)
 contents-at slots once s n k pos h e =
-    let is = slot-is slots once n k pos h e in contents-some slots s n pos (omega arith) ∙ ap (λ (j : ℕ). some (bytesAt slots s j)) is
+    let is = slot-is slots once n k pos h e in contents-some slots s n pos (omega arith) ∙ ap (λ (j : ℕ). some (bytesInSlot slots s j)) is
 
 -- ---- a slot replaced
 
@@ -104,7 +105,7 @@ module _ (slots : List Slot) (k : ℕ) (x : Slot) (sized : length slots ≡ 16) 
         (λ qi pos. set-each (λ y. x .name ≡ y .name → i ≡ j) j (λ qj e. qi ∙ sym qj) (λ qj e. absurd (alone j hj qj (omega arith) (sym e))))
         (λ qi pos. set-each (λ y. nameAt slots i ≡ y .name → i ≡ j) j (λ qj e. absurd (alone i hi qi pos e)) (λ qj e. once i j hi hj pos e))
 
-    module _ (s s′ : List ℕ) (kept : (j : ℕ) → j < 16 → (j ≡ k → ⊥) → 0 < nameAt slots j → bytesAt slots s′ j ≡ bytesAt slots s j) where
+    module _ (s s′ : List ℕ) (kept : (j : ℕ) → j < 16 → (j ≡ k → ⊥) → 0 < nameAt slots j → bytesInSlot slots s′ j ≡ bytesInSlot slots s j) where
       -- a name that neither was nor is the slot's
       contents-other : (m : ℕ) → (m ≡ nameAt slots k → ⊥) → (m ≡ x .name → ⊥) → contentsOf (set slots k x) s′ m ≡ contentsOf slots s m
       contents-other m was is = ⊎-elim (λ z. contents-zero _ s′ m z ∙ sym (contents-zero slots s m z)) (λ z. ⊎-elim unknown (found z) (slot-cases slots m)) (same? m 0)

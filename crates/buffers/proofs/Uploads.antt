@@ -11,24 +11,28 @@ use lib.ListN.{length, getD, take, drop, set, length-take, length-drop}
 use lib.Seq.{set-getD}
 use borrow.Author.Tests.{lt-ltb, le-ltb, ne-eqb}
 use Rattle.number.specs.Bytes.{overwrite}
-use Rattle.buffers.specs.Objects.{Objects, objects, Answer, answer, AnswersIn, Bindable, Sound, slotOf, nameAt, lenAt, freeSlot, bytesAt, contentsOf, put, padded}
-use Rattle.buffers.specs.Objects.{boundAt, isTarget, bufferData, bufferSubData, bytesOf, withSlot}
+use Rattle.buffers.specs.Objects.{Objects, objects, Answer, answer, AnswersIn, FreeSlots, Bindable, Sound, slotOf, nameAt, lenAt, freeSlot, bytesInSlot}
+use Rattle.buffers.specs.Objects.{contentsOf, withBytes, padded}
+use Rattle.buffers.specs.Objects.{boundAt, isTarget, dataAnswer, subDataAnswer, bytesOf}
+use Rattle.buffers.specs.ObjectsCode.{withSlot}
 use Rattle.buffers.specs.declared.Slot.{Slot}
 use Rattle.buffers.specs.declared.Buffers.{Buffers}
 use Rattle.buffers.proofs.Bounds.{lt-or-ge}
 use Rattle.buffers.proofs.Slots.{slot, slot-cases, slot-found, contents-some, contents-put, bindable-set, sound-set}
+use Rattle.buffers.proofs.Free.{free-same, filled-free, filled-set}
 use Rattle.buffers.proofs.Bytes.{length-padded, length-overwrite, padded-all, apart, written, within}
 
 module _ (b : Buffers) (s : List ℕ) (rule : Objects → Answer) where
   pub in-invalid : (Sound b → length s ≡ 65536 → ⊥) → AnswersIn b s rule 1 b s
-  in-invalid un = record { invalid = λ q. refl; ruled = λ p q. absurd (un p q); kept = λ p. p; size = refl; stays = λ q. (refl, refl) }
+  in-invalid un = record { invalid = λ q. refl; ruled = λ p q. absurd (un p q); kept = λ p. p; free = free-same; size = refl; stays = λ q. (refl, refl) }
 
   module _ (sound : Sound b) (sized : length s ≡ 65536) where
     pub in-same : (number : ℕ) → answer number (objects b s) ≡ rule (objects b s) → AnswersIn b s rule number b s
-    in-same number e = record { invalid = λ q. absurd (q sound sized); ruled = λ p q. e; kept = λ p. p; size = refl; stays = λ q. (refl, refl) }
+    in-same number e = record { invalid = λ q. absurd (q sound sized); ruled = λ p q. e; kept = λ p. p; free = free-same; size = refl; stays = λ q. (refl, refl) }
 
-    pub in-done : (r : Buffers) (s′ : List ℕ) → length s′ ≡ length s → answer 0 (objects r s′) ≡ rule (objects b s) → Sound r → AnswersIn b s rule 0 r s′
-    in-done r s′ len e k = record { invalid = λ q. absurd (q sound sized); ruled = λ p q. e; kept = λ p. k; size = len; stays = λ q. absurd (q refl) }
+    pub in-done : (r : Buffers) (s′ : List ℕ) → length s′ ≡ length s → answer 0 (objects r s′) ≡ rule (objects b s) → Sound r
+        → FreeSlots (b .slots) (r .slots) → AnswersIn b s rule 0 r s′
+    in-done r s′ len e k f = record { invalid = λ q. absurd (q sound sized); ruled = λ p q. e; kept = λ p. k; free = f; size = len; stays = λ q. absurd (q refl) }
 
 -- a name that is bound and not 0 has a slot
 pub bound-slot : (b : Buffers) → Sound b → (s : List ℕ) (t n : ℕ) → n ≡ boundAt (objects b s) t → (n ≡ 0 → ⊥) → slotOf (b .slots) n < 16
@@ -58,12 +62,12 @@ module _ (b : Buffers) (s : List ℕ) (t n : ℕ) (sound : Sound b) (slots16 : l
   -- a part of the named slot's block is written: the name's bytes are replaced, and no other's
   objects-put : (x : Slot) → x .name ≡ n → (at : ℕ) (new : List ℕ) → 4096 * k ≤ at → at + length new ≤ 4096 * k + 4096
       → objects (record { slots = set (b .slots) k x; next = b .next; «array_buffer» = b .«array_buffer»; «element_buffer» = b .«element_buffer» }) (overwrite s at new)
-      ≡ put (objects b s) n (take (x .len) (drop (4096 * k) (overwrite s at new)))
+      ≡ withBytes (objects b s) n (take (x .len) (drop (4096 * k) (overwrite s at new)))
   objects-put x e at new lo hi =
       (λ i. record { next = b .next; contents = fun-ext holds i; array = b .«array_buffer»; element = b .«element_buffer» })
-      ∙ ap (λ (m : ℕ). put (objects b s) m (take (x .len) (drop (4096 * k) (overwrite s at new)))) e
+      ∙ ap (λ (m : ℕ). withBytes (objects b s) m (take (x .len) (drop (4096 * k) (overwrite s at new)))) e
     where
-      kept : (j : ℕ) → j < 16 → (j ≡ k → ⊥) → 0 < nameAt (b .slots) j → bytesAt (b .slots) (overwrite s at new) j ≡ bytesAt (b .slots) s j
+      kept : (j : ℕ) → j < 16 → (j ≡ k → ⊥) → 0 < nameAt (b .slots) j → bytesInSlot (b .slots) (overwrite s at new) j ≡ bytesInSlot (b .slots) s j
       kept j h q pos =
           let small = sound .small j h pos in
           apart s at new (omega (arith, in-slots)) (lenAt (b .slots) j) (4096 * j) (omega arith)
@@ -77,15 +81,16 @@ module _ (b : Buffers) (s : List ℕ) (t n : ℕ) (sound : Sound b) (slots16 : l
 
   pub data-done : (size : ℕ) (bytes : List ℕ) → isTarget t ≡ true → size ≤ 4096
       → (r : Buffers) → r ≡ withSlot b k n size → (s′ : List ℕ) → s′ ≡ overwrite s (4096 * k) (padded size bytes)
-      → AnswersIn b s (λ o. bufferData o t size bytes) 0 r s′
-  unfolding bufferData
+      → AnswersIn b s (λ o. dataAnswer o t size bytes) 0 r s′
+  unfolding dataAnswer
   data-done size bytes target small r made s′ wrote =
       rw (made, wrote)
       (in-done b s _ sound sized _ _ (length-overwrite s (4096 * k) (padded size bytes) fits)
-      (ap (answer 0) (objects-put (slot n size) refl (4096 * k) (padded size bytes) (omega arith) (omega (arith, length-padded size bytes)) ∙ ap (put (objects b s) n) here)
+      (ap (answer 0) (objects-put (slot n size) refl (4096 * k) (padded size bytes) (omega arith) (omega (arith, length-padded size bytes)) ∙ ap (withBytes (objects b s) n) here)
       ∙ simp (target, sym bound, ne-eqb n 0 z, le-ltb 4096 size small))
       (sound-set b sound k (slot n size) slots16 in-slots only small (b .next) _ _ (omega arith) (omega (arith, old, sound .below k in-slots))
-      (still (b .«array_buffer») (sound .array-live)) (still (b .«element_buffer») (sound .element-live))))
+      (still (b .«array_buffer») (sound .array-live)) (still (b .«element_buffer») (sound .element-live)))
+      (filled-free (filled-set (b .slots) k (slot n size) slots16 in-slots (omega (arith, z)))))
     where
       fits : 4096 * k + length (padded size bytes) ≤ length s
       fits = omega (arith, in-slots, length-padded size bytes)
@@ -97,8 +102,8 @@ module _ (b : Buffers) (s : List ℕ) (t n : ℕ) (sound : Sound b) (slots16 : l
       still a = bindable-set (b .slots) k (slot n size) slots16 in-slots a (λ p q. q ∙ old)
 
   -- the named slot's bytes
-  slot-bytes : bytesOf (contentsOf (b .slots) s n) ≡ bytesAt (b .slots) s k
-  slot-bytes = ap bytesOf (contents-some (b .slots) s n (omega (arith, z)) (omega (arith, in-slots))) ∙ ap (bytesAt (b .slots) s) (sym found)
+  slot-bytes : bytesOf (contentsOf (b .slots) s n) ≡ bytesInSlot (b .slots) s k
+  slot-bytes = ap bytesOf (contents-some (b .slots) s n (omega (arith, z)) (omega (arith, in-slots))) ∙ ap (bytesInSlot (b .slots) s) (sym found)
 
   pub slot-small : lenAt (b .slots) k ≤ 4096
   slot-small = sound .small k in-slots (omega (arith, z, old))
@@ -107,23 +112,23 @@ module _ (b : Buffers) (s : List ℕ) (t n : ℕ) (sound : Sound b) (slots16 : l
     length-named : length (bytesOf (contentsOf (b .slots) s n)) ≡ len
     length-named = ap length slot-bytes ∙ simp (length-take, length-drop) (omega (arith, slot-small, in-slots, has))
 
-    pub sub-short : len < off + length bytes → AnswersIn b s (λ o. bufferSubData o t off bytes) 0x0501 b s
-    unfolding bufferSubData
+    pub sub-short : len < off + length bytes → AnswersIn b s (λ o. subDataAnswer o t off bytes) 0x0501 b s
+    unfolding subDataAnswer
     sub-short h = in-same b s _ sound sized 0x0501 (simp (sym bound, ne-eqb n 0 z, length-named, lt-ltb len (off + length bytes) h))
 
     pub sub-done : off + length bytes ≤ len → (s′ : List ℕ) → s′ ≡ overwrite s (4096 * k + off) (padded (length bytes) bytes)
-        → AnswersIn b s (λ o. bufferSubData o t off bytes) 0 b s′
-    unfolding bufferSubData
+        → AnswersIn b s (λ o. subDataAnswer o t off bytes) 0 b s′
+    unfolding subDataAnswer
     sub-done h s′ wrote =
         rw (wrote, padded-all)
         (in-done b s _ sound sized b _ (length-overwrite s (4096 * k + off) bytes (omega (arith, in-slots, slot-small)))
-        (ap (answer 0) (replaced ∙ ap (put (objects b s) n) inside) ∙ simp (sym bound, ne-eqb n 0 z, length-named, le-ltb len (off + length bytes) h))
-        sound)
+        (ap (answer 0) (replaced ∙ ap (withBytes (objects b s) n) inside) ∙ simp (sym bound, ne-eqb n 0 z, length-named, le-ltb len (off + length bytes) h))
+        sound free-same)
       where
         after : List ℕ
         after = overwrite s (4096 * k + off) bytes
 
-        replaced : objects b after ≡ put (objects b s) n (take (lenAt (b .slots) k) (drop (4096 * k) after))
+        replaced : objects b after ≡ withBytes (objects b s) n (take (lenAt (b .slots) k) (drop (4096 * k) after))
         replaced =
             ap (λ (l : List Slot). objects (record { slots = l; next = b .next; «array_buffer» = b .«array_buffer»; «element_buffer» = b .«element_buffer» }) after)
             (sym (set-getD (b .slots) k freeSlot))

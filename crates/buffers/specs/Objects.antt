@@ -5,7 +5,7 @@ use mathlib.Core.List.{List, [], _∷_, _++_}
 use mathlib.Core.Logic.{_⊎_}
 use mathlib.Core.Option.{Option, some, none}
 use mathlib.Core.Path.{_≡_}
-use lib.ListN.{length, getD, take, drop, set, replicate}
+use lib.ListN.{length, getD, take, drop, replicate}
 use lib.Dec.{eqb, ltb, leb}
 use Rattle.number.specs.Decides.{Decides}
 use Rattle.number.specs.Bytes.{overwrite}
@@ -67,8 +67,8 @@ abbrev pub lenAt : List Slot → ℕ → ℕ
 lenAt slots k = getD slots k freeSlot .len
 
 -- the bytes of slot k: the first of its block
-abbrev pub bytesAt : List Slot → List ℕ → ℕ → List ℕ
-bytesAt slots store k = take (lenAt slots k) (drop (slotBytes * k) store)
+abbrev pub bytesInSlot : List Slot → List ℕ → ℕ → List ℕ
+bytesInSlot slots store k = take (lenAt slots k) (drop (slotBytes * k) store)
 
 -- the first slot with this name, or 16
 unfoldable pub slotOf : List Slot → ℕ → ℕ
@@ -77,7 +77,7 @@ slotOf slots n = first slotCount (λ k. eqb (nameAt slots k) n)
 -- what a name holds; name 0 marks a free slot and holds nothing
 unfoldable pub contentsOf : List Slot → List ℕ → ℕ → Option (List ℕ)
 contentsOf slots store n =
-    cond (eqb n 0) none (cond (ltb (slotOf slots n) slotCount) (some (bytesAt slots store (slotOf slots n))) none)
+    cond (eqb n 0) none (cond (ltb (slotOf slots n) slotCount) (some (bytesInSlot slots store (slotOf slots n))) none)
 
 abbrev pub objects : Buffers → List ℕ → Objects
 objects b store =
@@ -110,10 +110,21 @@ pub record SoundIs (b : Buffers) (r : Bool) : Type 0 where
   pub decides : Decides (Sound b) r
   pub slots : length (b .slots) ≡ slotCount
 
--- fresh buffers are sound, and their objects are fresh over any store
+-- fresh buffers are sound, their objects are fresh over any store, and every length is 0
 pub record IsFresh (r : Buffers) : Type 0 where
   pub sound : Sound r
   pub state : (s : List ℕ) → objects r s ≡ freshObjects
+  pub lengths : (k : ℕ) → k < slotCount → lenAt (r .slots) k ≡ 0
+
+-- ---- free slots
+
+-- the length in a slot that a call leaves free: as it was where the slot was free before, 0 where the call freed it
+abbrev pub freeLen : List Slot → ℕ → ℕ
+freeLen before k = cond (eqb (nameAt before k) 0) (lenAt before k) 0
+
+-- what slots before and after a call have in common, whichever slot it took or freed
+pub record FreeSlots (before after : List Slot) : Type 0 where
+  pub lengths : (k : ℕ) → k < slotCount → nameAt after k ≡ 0 → lenAt after k ≡ freeLen before k
 
 -- ---- the calls
 
@@ -126,21 +137,23 @@ abbrev pub answer : ℕ → Objects → Answer
 answer n o = record { number = n; after = o }
 
 -- The contract of a call that borrows no store, by the rule for its objects. Unsound buffers are refused with 1 and stay. Else
--- number and objects are the rule's over any store, and the buffers stay sound. A refusal changes nothing, save that bind at a
--- refused target, 0x0500, still makes the name.
+-- number and objects are the rule's over any store, the buffers stay sound, and a free slot's length is settled. A refusal whose
+-- rule leaves the objects changes nothing; the one other refusal is bind's at a refused target, 0x0500, which makes a new name.
 pub record Answers (b : Buffers) (rule : Objects → Answer) (number : ℕ) (r : Buffers) : Type 0 where
   pub unsound : (Sound b → ⊥) → (number ≡ 1) × (r ≡ b)
   pub ruled : Sound b → (s : List ℕ) → answer number (objects r s) ≡ rule (objects b s)
   pub kept : Sound b → Sound r
-  pub stays : (number ≡ 0 → ⊥) → (number ≡ 0x0500 → ⊥) → r ≡ b
+  pub free : FreeSlots (b .slots) (r .slots)
+  pub stays : (number ≡ 0 → ⊥) → (s : List ℕ) → rule (objects b s) .after ≡ objects b s → r ≡ b
 
 -- The contract of a call that borrows the store, which holds s before and s′ after. Unsound buffers or a store of another length
--- are refused with 1. Else number and objects are the rule's, and the buffers stay sound. A refusal changes neither buffers nor
--- store.
+-- are refused with 1. Else number and objects are the rule's, the buffers stay sound, and a free slot's length is settled. A
+-- refusal changes neither buffers nor store.
 pub record AnswersIn (b : Buffers) (s : List ℕ) (rule : Objects → Answer) (number : ℕ) (r : Buffers) (s′ : List ℕ) : Type 0 where
   pub invalid : (Sound b → length s ≡ storeBytes → ⊥) → number ≡ 1
   pub ruled : Sound b → length s ≡ storeBytes → answer number (objects r s′) ≡ rule (objects b s)
   pub kept : Sound b → Sound r
+  pub free : FreeSlots (b .slots) (r .slots)
   pub size : length s′ ≡ length s
   pub stays : (number ≡ 0 → ⊥) → (r ≡ b) × (s′ ≡ s)
 
@@ -161,8 +174,8 @@ unfoldable pub genNames : ℕ → Objects → Objects
 genNames zero o = o
 genNames (suc n) o = genNames n (make o (o .next))
 
-unfoldable pub genBuffers : Objects → ℕ → Answer
-genBuffers o n =
+unfoldable pub genAnswer : Objects → ℕ → Answer
+genAnswer o n =
     cond (ltb slotCount (liveNames o + n)) (answer 4 o)
     (cond (ltb lastName (o .next + n)) (answer 5 o)
     (answer 0 (genNames n o)))
@@ -172,7 +185,7 @@ abbrev pub genFirst : ℕ → ℕ → ℕ → ℕ
 genFirst number next n = cond (eqb number 0 && ltb 0 n) next 0
 
 pub record Generates (b : Buffers) (n : ℕ) (number : ℕ) (first : ℕ) (r : Buffers) : Type 0 where
-  pub answers : Answers b (λ o. genBuffers o n) number r
+  pub answers : Answers b (λ o. genAnswer o n) number r
   pub names : first ≡ genFirst number (b .next) n
 
 -- ---- bind
@@ -195,8 +208,8 @@ bindElement o n = record { next = o .next; contents = o .contents; array = o .ar
 abbrev pub roomFor : Objects → ℕ → Bool
 roomFor o n = eqb n 0 || (not (absent (o .contents n)) || ltb (liveNames o) slotCount)
 
-unfoldable pub bindBuffer : Objects → ℕ → ℕ → Answer
-bindBuffer o target n =
+unfoldable pub bindAnswer : Objects → ℕ → ℕ → Answer
+bindAnswer o target n =
     cond (leb lastName n) (answer 5 o)
     (cond (not (roomFor o n)) (answer 4 o)
     (cond (eqb target 0x8892) (answer 0 (bindArray (named o n) n))
@@ -222,8 +235,8 @@ unfoldable pub deleteNames : List ℕ → Objects → Objects
 deleteNames [] o = o
 deleteNames (n ∷ ns) o = deleteNames ns (deleteName o n)
 
-abbrev pub deleteBuffers : Objects → List ℕ → Answer
-deleteBuffers o names = answer 0 (deleteNames names o)
+abbrev pub deleteAnswer : Objects → List ℕ → Answer
+deleteAnswer o names = answer 0 (deleteNames names o)
 
 -- ---- data and sub-data
 
@@ -235,8 +248,8 @@ abbrev pub boundAt : Objects → ℕ → ℕ
 boundAt o target = cond (eqb target 0x8892) (o .array) (cond (eqb target 0x8893) (o .element) 0)
 
 -- a live name's bytes replaced
-abbrev pub put : Objects → ℕ → List ℕ → Objects
-put o n bytes =
+abbrev pub withBytes : Objects → ℕ → List ℕ → Objects
+withBytes o n bytes =
     record {
       next = o .next;
       contents = λ m. cond (eqb m n) (some bytes) (o .contents m);
@@ -248,54 +261,15 @@ put o n bytes =
 unfoldable pub padded : ℕ → List ℕ → List ℕ
 padded size bytes = take size (bytes ++ replicate size 0)
 
-unfoldable pub bufferData : Objects → ℕ → ℕ → List ℕ → Answer
-bufferData o target size bytes =
+unfoldable pub dataAnswer : Objects → ℕ → ℕ → List ℕ → Answer
+dataAnswer o target size bytes =
     cond (not (isTarget target)) (answer 0x0500 o)
     (cond (eqb (boundAt o target) 0) (answer 0x0502 o)
     (cond (ltb slotBytes size) (answer 6 o)
-    (answer 0 (put o (boundAt o target) (padded size bytes)))))
+    (answer 0 (withBytes o (boundAt o target) (padded size bytes)))))
 
-unfoldable pub bufferSubData : Objects → ℕ → ℕ → List ℕ → Answer
-bufferSubData o target at bytes =
+unfoldable pub subDataAnswer : Objects → ℕ → ℕ → List ℕ → Answer
+subDataAnswer o target at bytes =
     cond (eqb (boundAt o target) 0) (answer 0x0502 o)
     (cond (ltb (length (bytesOf (o .contents (boundAt o target)))) (at + length bytes)) (answer 0x0501 o)
-    (answer 0 (put o (boundAt o target) (overwrite (bytesOf (o .contents (boundAt o target))) at bytes))))
-
--- ---- for the code
-
--- how many slots are in use: as many as names live (`live-law` in proofs/Laws.antt)
-unfoldable pub liveIn : List Slot → ℕ
-liveIn slots = count slotCount (λ k. ltb 0 (nameAt slots k))
-
--- a slot is free, or within the limits
-pub record SlotFits (slot : Slot) (next : ℕ) : Type 0 where
-  pub small : 0 < slot .name → slot .len ≤ slotBytes
-  pub below : slot .name < next
-
--- slot k is free, or within the limits and the first with its name
-pub record SlotSound (b : Buffers) (k : ℕ) : Type 0 where
-  pub small : 0 < nameAt (b .slots) k → lenAt (b .slots) k ≤ slotBytes
-  pub below : nameAt (b .slots) k < b .next
-  pub first : 0 < nameAt (b .slots) k → slotOf (b .slots) (nameAt (b .slots) k) ≡ k
-
--- the buffers with slot k replaced
-abbrev pub withSlot : Buffers → ℕ → ℕ → ℕ → Buffers
-withSlot b k n l =
-    record {
-      slots = set (b .slots) k (record { name = n; len = l });
-      next = b .next;
-      «array_buffer» = b .«array_buffer»;
-      «element_buffer» = b .«element_buffer»;
-    }
-
--- what a step of the code does to the objects over any store
-pub record Steps (b : Buffers) (rule : Objects → Objects) (r : Buffers) : Type 0 where
-  pub state : (s : List ℕ) → objects r s ≡ rule (objects b s)
-  pub sound : Sound r
-
--- a name made live, or no room for it
-pub record Made (b : Buffers) (n : ℕ) (ok : Bool) (r : Buffers) : Type 0 where
-  pub room : (s : List ℕ) → ok ≡ roomFor (objects b s) n
-  pub state : (s : List ℕ) → objects r s ≡ cond ok (named (objects b s) n) (objects b s)
-  pub sound : Sound r
-  pub bound : ok ≡ true → Bindable (r .slots) n
+    (answer 0 (withBytes o (boundAt o target) (overwrite (bytesOf (o .contents (boundAt o target))) at bytes))))

@@ -8,9 +8,9 @@ ghost use lib.Dec.{eqb, ltb};
 ghost use Rattle.number.specs.Decides.{Decides};
 ghost use Rattle.number.specs.Bytes.{overwrite};
 ghost use Rattle.buffers.specs.Live.{NextLive};
-ghost use Rattle.buffers.specs.Objects.{nameAt, slotCount, lastName, slotOf, withSlot, lenAt, Bindable, Sound, SoundIs, SlotFits, IsFresh, objects, Made};
-ghost use Rattle.buffers.specs.Objects.{Answers, bindBuffer, AnswersIn, bufferData, bufferSubData, padded, isTarget, boundAt, deleteName};
-ghost use Rattle.buffers.specs.Objects.{Steps, deleteBuffers, Generates, liveIn};
+ghost use Rattle.buffers.specs.Objects.{nameAt, slotCount, lastName, slotOf, lenAt, Bindable, Sound, SoundIs, IsFresh, objects, Answers, bindAnswer, AnswersIn};
+ghost use Rattle.buffers.specs.Objects.{dataAnswer, subDataAnswer, padded, isTarget, boundAt, deleteName, deleteAnswer, Generates};
+ghost use Rattle.buffers.specs.ObjectsCode.{withSlot, SlotFits, MakesName, Steps, liveIn};
 
 // Limits: slots, bytes of a slot's block, bytes of the store, and the number that no name reaches.
 pub const SLOT_COUNT: usize = 16;
@@ -167,7 +167,7 @@ pub struct NameMade {
 // A nonzero name is live after this, if a slot is free for it or it has one.
 fn make_name(b: Buffers, name: u32) -> NameMade
     requires { ⌜ Sound b × (name < lastName) ⌝ }
-    ensures { λ r. ⌜ Made b name (r .ok) (r .buffers) ⌝ }
+    ensures { λ r. ⌜ MakesName b name (r .ok) (r .buffers) ⌝ }
 {
     if name == 0 {
         return NameMade {
@@ -205,7 +205,7 @@ pub struct Answered {
 
 // `glBindBuffer`.
 pub fn bind_buffer(b: Buffers, target: u32, name: u32) -> Answered
-    ensures { λ r. ⌜ Answers b (λ o. bindBuffer o target name) (r .number) (r .buffers) ⌝ }
+    ensures { λ r. ⌜ Answers b (λ o. bindAnswer o target name) (r .number) (r .buffers) ⌝ }
 {
     if !sound(b) {
         return Answered {
@@ -309,7 +309,7 @@ pub fn slot_len(b: Buffers, k: usize) -> u32
 
 // `glBufferData`.
 pub fn buffer_data(b: Buffers, store: &mut [u8], target: u32, size: usize, data: &[u8]) -> Answered
-    ensures { λ r. ⌜ AnswersIn b (now (store .entry)) (λ o. bufferData o target size (now («data» .entry))) (r .number) (r .buffers) (now (store .exit)) ⌝ }
+    ensures { λ r. ⌜ AnswersIn b (now (store .entry)) (λ o. dataAnswer o target size (now («data» .entry))) (r .number) (r .buffers) (now (store .exit)) ⌝ }
 {
     if !sound(b) {
         return Answered {
@@ -358,7 +358,7 @@ pub fn buffer_sub_data(
     offset: u32,
     data: &[u8],
 ) -> Answered
-    ensures { λ r. ⌜ AnswersIn b (now (store .entry)) (λ o. bufferSubData o target offset (now («data» .entry))) (r .number) (r .buffers) (now (store .exit)) ⌝ }
+    ensures { λ r. ⌜ AnswersIn b (now (store .entry)) (λ o. subDataAnswer o target offset (now («data» .entry))) (r .number) (r .buffers) (now (store .exit)) ⌝ }
 {
     if !sound(b) {
         return Answered {
@@ -428,7 +428,7 @@ fn delete_name(b: Buffers, name: u32) -> Buffers
 
 // `glDeleteBuffers`.
 pub fn delete_buffers(b: Buffers, names: &[u32]) -> Answered
-    ensures { λ r. ⌜ Answers b (λ o. deleteBuffers o (now (names .entry))) (r .number) (r .buffers) ⌝ }
+    ensures { λ r. ⌜ Answers b (λ o. deleteAnswer o (now (names .entry))) (r .number) (r .buffers) ⌝ }
 {
     if !sound(b) {
         return Answered {

@@ -1,13 +1,13 @@
 -- From what the inner functions ensure to an entry's contract: one law for each group of calls. Assumes nothing.
-use mathlib.Core.Bool.{Bool, true, false, cond}
+use mathlib.Core.Bool.{Bool, true, false, not, cond, _&&_}
 use mathlib.Core.List.{List}
-use mathlib.Core.Logic.{inl, inr, ⊎-elim}
+use mathlib.Core.Logic.{_⊎_, inl, inr, ⊎-elim}
 use mathlib.Core.Option.{some, none}
 use mathlib.Core.Path.{_≡_, refl, sym, ap, subst, _∙_}
-use Prim.Native.Nat.{ℕ, _+_, _<_}
+use Prim.Native.Nat.{ℕ, _+_, _<_, max}
 use native.Mathlib.Omega.{arith}
 use borrow.Author.Tests.{ne-eqb}
-use lib.Dec.{eqb, ltb}
+use lib.Dec.{eqb, ltb, leb}
 use lib.Ieee.{Float}
 use lib.ListN.{length}
 use Rattle.number.specs.Decides.{Decides}
@@ -19,7 +19,9 @@ use Rattle.stack.specs.declared.StackAnswer.{StackAnswer}
 use Rattle.stack.proofs.Stacks.{is-two, follows, stack-stays, fresh-sound, fresh-state}
 use Rattle.buffers.specs.Objects as buffer
 use Rattle.buffers.specs.declared.Buffers.{Buffers}
-use Rattle.buffers.proofs.Bounds.{never, same?}
+use Rattle.buffers.proofs.Bounds.{never}
+use Rattle.buffers.proofs.Free.{free-same}
+use Rattle.buffers.proofs.Laws.{live-below}
 use Rattle.arrays.specs.Arrays.{unitCount, ArrayCall, arrayStep, freshArrays}
 use Rattle.arrays.specs.Attributes.{AttributeCall, attributeStep, freshAttributes}
 use Rattle.arrays.specs.declared.Arrays.{Arrays}
@@ -32,8 +34,8 @@ use Rattle.pipeline.specs.declared.Pipeline.{Pipeline}
 use Rattle.pipeline.specs.declared.PipelineAnswer.{PipelineAnswer}
 use Rattle.pipeline.proofs.Laws.{refusal-keeps, active-stays}
 use Rattle.vertex.specs.Scene.{Source, DrawCall}
-use Rattle.vertex.specs.Represented.{sceneIn}
-use Rattle.vertex.specs.declared.Scene.{Scene}
+use Rattle.vertex.specs.SceneCode.{sceneIn}
+use Rattle.vertex.specs.declared.DrawInputs.{DrawInputs}
 use Rattle.draw.specs.Draw.{drawIn, Draws}
 use Rattle.draw.specs.declared.Drawn.{Drawn}
 use Rattle.context.specs.declared.MatrixMode.{MatrixMode}
@@ -41,12 +43,13 @@ use Rattle.context.specs.declared.Stacks.{Stacks}
 use Rattle.context.specs.declared.Context.{Context}
 use Rattle.context.specs.declared.Currents.{Currents}
 use Rattle.context.specs.declared.Reply.{Reply}
-use Rattle.context.specs.State.{stackAt, view, Sound, SoundApart, Fresh}
+use Rattle.context.specs.State.{stackAt, stateOf, Sound, Fresh}
 use Rattle.context.specs.Calls as calls
-use Rattle.context.specs.Calls.{BufferCall, gen, bind, delete, bufferData, bufferSubData, Call, isUpload, isBind, borrowsStore}
-use Rattle.context.specs.Rules.{matrixModes, sameMode, bufferAnswer, drawing, slotAfter}
-use Rattle.context.specs.Contract.{currentAt, putCurrent, currentsOf, withCurrent, putCurrents, putStack, putMode, putStacks, putBuffers, putArrays, putAttributes}
-use Rattle.context.specs.Contract.{putPipeline, putError, noted, Valid, RefusalKeeps, Follows, Did, Does, Drew, reply, Settled, sceneFor, drawCall}
+use Rattle.context.specs.Calls.{BufferCall, genBuffers, bindBuffer, deleteBuffers, bufferData, bufferSubData, Call, isUpload, borrowsStore}
+use Rattle.context.specs.Rules.{matrixModes, sameMode, bufferAnswer, makesName, drawing, slotAfter}
+use Rattle.context.specs.Contract.{putStack, putBuffers, putError, noted, Valid, RefusalKeeps, Follows, Did, Does, Drew, drawCall}
+use Rattle.context.specs.ContractCode.{SoundApart, currentAt, putCurrent, currentsOf, withCurrent, putCurrents, putMode, putStacks, putArrays, putAttributes}
+use Rattle.context.specs.ContractCode.{putPipeline, reply, Settled, inputsFor}
 
 -- ---- soundness
 
@@ -143,11 +146,11 @@ module _ (k : stack.MatrixCall) (c : Context) (h : Sound c) where
   abbrev new : StackAnswer
   new = stack.stackAnswer k (stackAt (c .mode) (c .stacks))
 
-  stack-states : (m : MatrixMode) → stack.stateOf (stackAt m (putStack (c .mode) (new .stack) (c .stacks)))
-      ≡ cond (sameMode m (c .mode)) (stack.stackStep k (stack.stateOf (stackAt m (c .stacks)))) (stack.stateOf (stackAt m (c .stacks)))
+  stack-states : (m : MatrixMode) → stack.stackStateOf (stackAt m (putStack (c .mode) (new .stack) (c .stacks)))
+      ≡ cond (sameMode m (c .mode)) (stack.stackStep k (stack.stackStateOf (stackAt m (c .stacks)))) (stack.stackStateOf (stackAt m (c .stacks)))
   stack-states =
       put-all
-      (λ m x. stack.stateOf x ≡ cond (sameMode m (c .mode)) (stack.stackStep k (stack.stateOf (stackAt m (c .stacks)))) (stack.stateOf (stackAt m (c .stacks))))
+      (λ m x. stack.stackStateOf x ≡ cond (sameMode m (c .mode)) (stack.stackStep k (stack.stackStateOf (stackAt m (c .stacks)))) (stack.stackStateOf (stackAt m (c .stacks))))
       (c .mode) (c .stacks) (new .stack)
       (rw (same-mode (c .mode)) (follows old (h .stacks (c .mode)) k .1))
       (λ m e. rw e)
@@ -160,7 +163,7 @@ module _ (k : stack.MatrixCall) (c : Context) (h : Sound c) where
         state = λ i. record {
           mode = c .mode;
           stacks = λ m. stack-states m i;
-          objects = view c s .objects;
+          objects = stateOf c s .objects;
           attributes = c .attributes;
           pipeline = c .pipeline;
           error = slotAfter (f .0 i) (c .error);
@@ -173,6 +176,7 @@ module _ (k : stack.MatrixCall) (c : Context) (h : Sound c) where
         };
         stacks = refl;
         slots = λ _. refl;
+        free = free-same;
         refusal = λ q.
             (inl (ap (λ t. noted (new .number) (putStacks t c)) (ap (λ x. putStack (c .mode) x (c .stacks)) (stack-stays k old q) ∙ put-same (c .mode) (c .stacks))), refl);
       }
@@ -221,7 +225,7 @@ module _ (u : stack.MatrixUpdate) (c : Context) where
       (ap (λ x. putCurrents x (c .stacks)) e ∙ sym (put-current (c .mode) (c .stacks) (stack.updated u (currentAt (c .mode) kept)))
       ∙ ap (λ (x : List Float). putStack (c .mode) (withCurrent (record { entries = stack.updated u x }) in-force) (c .stacks)) (sym (current-at (c .mode) (c .stacks))))
       ∙ sym (ap answered (is-two in-force (h .stacks (c .mode)) (stack.update u)
-      ∙ ap (λ (n : ℕ). cond (eqb n 0) (stack.answer 0 (stack.changed (stack.update u) in-force)) (stack.answer n in-force)) z))
+      ∙ ap (λ (n : ℕ). cond (eqb n 0) (stack.stackAnswered 0 (stack.changed (stack.update u) in-force)) (stack.stackAnswered n in-force)) z))
       )
 
   -- the value may be had from a copy of the current matrices
@@ -246,8 +250,8 @@ module _ (u : stack.MatrixUpdate) (c : Context) where
       ap (λ (x : Currents). reply n (noted n (putStacks (putCurrents x (c .stacks)) c))) e
       ∙ ap (λ (t : Stacks). reply n (noted n (putStacks t c))) (sym (put-same (c .mode) (c .stacks)))
       ∙ sym (ap answered (is-two in-force (h .stacks (c .mode)) (stack.update u)
-      ∙ ap (λ (x : ℕ). cond (eqb x 0) (stack.answer 0 (stack.changed (stack.update u) in-force)) (stack.answer x in-force)) (sym z)
-      ∙ ap (λ b. cond b (stack.answer 0 (stack.changed (stack.update u) in-force)) (stack.answer n in-force)) (ne-eqb n 0 q)))
+      ∙ ap (λ (x : ℕ). cond (eqb x 0) (stack.stackAnswered 0 (stack.changed (stack.update u) in-force)) (stack.stackAnswered x in-force)) (sym z)
+      ∙ ap (λ b. cond b (stack.stackAnswered 0 (stack.changed (stack.update u) in-force)) (stack.stackAnswered n in-force)) (ne-eqb n 0 q)))
       )
 
 -- ---- mode calls
@@ -261,6 +265,7 @@ module _ (code : ℕ) (c : Context) (h : Sound c) where
         sound = record { stacks = h .stacks; buffers = h .buffers; client-unit = h .client-unit; active-unit = h .active-unit };
         stacks = refl;
         slots = λ _. refl;
+        free = free-same;
         refusal = λ q. absurd (q refl);
       })
 
@@ -272,6 +277,7 @@ module _ (code : ℕ) (c : Context) (h : Sound c) where
         sound = record { stacks = h .stacks; buffers = h .buffers; client-unit = h .client-unit; active-unit = h .active-unit };
         stacks = refl;
         slots = λ _. refl;
+        free = free-same;
         refusal = λ q. (inl refl, refl);
       })
 
@@ -292,6 +298,7 @@ arrays-do k c a out e g =
       };
       stacks = refl;
       slots = λ _. refl;
+      free = free-same;
       refusal = λ q. ⊎-elim (λ z. absurd (q z)) (λ z. (inl (ap (λ x. noted (new .number) (putArrays x c)) (z .1)), refl)) (array-keeps k (c .buffers .«array_buffer») (c .arrays));
     })
   where
@@ -310,6 +317,7 @@ attributes-do k c a out e g =
       sound = record { stacks = h .stacks; buffers = h .buffers; client-unit = h .client-unit; active-unit = h .active-unit };
       stacks = refl;
       slots = λ _. refl;
+      free = free-same;
       refusal = λ q. ⊎-elim (λ z. absurd (q z)) (λ z. (inl (ap (λ x. noted (new .number) (putAttributes x c)) (z .1)), refl)) (attribute-keeps k (c .attributes));
     })
   where
@@ -328,6 +336,7 @@ pipeline-does k c a out e g =
       sound = record { stacks = h .stacks; buffers = h .buffers; client-unit = h .client-unit; active-unit = active-stays k (c .pipeline) (h .active-unit) };
       stacks = refl;
       slots = λ _. refl;
+      free = free-same;
       refusal = λ q. ⊎-elim (λ z. absurd (q z)) (λ z. (inl (ap (λ x. noted (new .number) (putPipeline x c)) (z .1)), refl)) (refusal-keeps k (c .pipeline));
     })
   where
@@ -344,36 +353,67 @@ take-error-does c h =
       sound = record { stacks = h .stacks; buffers = h .buffers; client-unit = h .client-unit; active-unit = h .active-unit };
       stacks = refl;
       slots = λ _. refl;
+      free = free-same;
       refusal = λ q. absurd (q refl);
     })
 
 -- ---- buffer calls
 
--- of the calls that do not borrow the store only bind answers 0x0500
-only-bind : (k : BufferCall) (o : buffer.Objects) → isUpload k ≡ false → bufferAnswer k o .number ≡ 0x0500 → isBind k ≡ true
-unfolding buffer.genBuffers
-only-bind (gen n) o e z = absurd (go (ltb 16 (buffer.liveNames o + n)) (ltb 4294967295 (o .next + n)) z)
+-- the state after bind at a refused target is the one before it, or the name is made
+named-same : (o : buffer.Objects) (n : ℕ) → (buffer.absent (o .contents n) ≡ false → n < o .next)
+    → (buffer.named o n ≡ o) ⊎ ((not (eqb n 0) && buffer.absent (o .contents n)) ≡ true)
+unfolding buffer.named
+named-same o n below = go (eqb n 0) (buffer.absent (o .contents n)) refl
   where
-    go : (x y : Bool) → cond x (buffer.answer 4 o) (cond y (buffer.answer 5 o) (buffer.answer 0 (buffer.genNames n o))) .number ≡ 0x0500 → ⊥
-    go true y z = omega arith
-    go false true z = omega arith
-    go false false z = omega arith
-only-bind (bind target name) o e z = refl
-only-bind (delete names) o e z = absurd (omega arith)
-only-bind (bufferData target size bytes usage) o e z = never true refl e
-only-bind (bufferSubData target offset bytes) o e z = never true refl e
+    go : (x y : Bool) → buffer.absent (o .contents n) ≡ y → (cond x o (cond y (buffer.make o n) (buffer.lift o n)) ≡ o) ⊎ ((not x && y) ≡ true)
+    go true y e = inl refl
+    go false true e = inr refl
+    go false false e =
+        let lifted : max (o .next) (n + 1) ≡ o .next = omega (arith, below e) in
+        inl (λ i. record { next = lifted i; contents = o .contents; array = o .array; element = o .element })
+
+-- a refused call that does not borrow the store leaves the objects, or is a bind that still makes its name
+refused-same : (k : BufferCall) (o : buffer.Objects) → ((n : ℕ) → buffer.absent (o .contents n) ≡ false → n < o .next) → isUpload k ≡ false
+    → (bufferAnswer k o .number ≡ 0 → ⊥) → (bufferAnswer k o .after ≡ o) ⊎ ((makesName k o ≡ true) × (bufferAnswer k o .number ≡ 0x0500))
+unfolding buffer.genAnswer buffer.bindAnswer
+refused-same (genBuffers n) o below e q = go (ltb 16 (buffer.liveNames o + n)) (ltb 4294967295 (o .next + n)) q
+  where
+    answered : (x y : Bool) → buffer.Answer
+    answered x y = cond x (buffer.answer 4 o) (cond y (buffer.answer 5 o) (buffer.answer 0 (buffer.genNames n o)))
+
+    go : (x y : Bool) → (answered x y .number ≡ 0 → ⊥) → (answered x y .after ≡ o) ⊎ ((false ≡ true) × (answered x y .number ≡ 0x0500))
+    go true y q = inl refl
+    go false true q = inl refl
+    go false false q = absurd (q refl)
+refused-same (bindBuffer target name) o below e q = go (leb 4294967295 name) (not (buffer.roomFor o name)) (eqb target 0x8892) (eqb target 0x8893) q
+  where
+    answered : (w x y z : Bool) → buffer.Answer
+    answered w x y z =
+        cond w (buffer.answer 5 o) (cond x (buffer.answer 4 o) (cond y (buffer.answer 0 (buffer.bindArray (buffer.named o name) name))
+        (cond z (buffer.answer 0 (buffer.bindElement (buffer.named o name) name)) (buffer.answer 0x0500 (buffer.named o name)))))
+
+    go : (w x y z : Bool) → (answered w x y z .number ≡ 0 → ⊥)
+        → (answered w x y z .after ≡ o) ⊎ (((not (eqb name 0) && buffer.absent (o .contents name)) ≡ true) × (answered w x y z .number ≡ 0x0500))
+    go true x y z q = inl refl
+    go false true y z q = inl refl
+    go false false true z q = absurd (q refl)
+    go false false false true q = absurd (q refl)
+    go false false false false q = ⊎-elim (λ s. inl s) (λ m. inr (m, refl)) (named-same o name (below name))
+refused-same (deleteBuffers names) o below e q = absurd (q refl)
+refused-same (bufferData target size bytes usage) o below e q = never true refl e
+refused-same (bufferSubData target offset bytes) o below e q = never true refl e
 
 module _ (k : BufferCall) (c : Context) (n : ℕ) (b : Buffers) where
   -- an answer of the buffers is the context's
   buffer-follows : (s s′ : List ℕ) → Sound c → buffer.answer n (buffer.objects b s′) ≡ bufferAnswer k (buffer.objects (c .buffers) s) → buffer.Sound b
-      → ((n ≡ 0 → ⊥) → RefusalKeeps (calls.object (calls.buffer k)) n c (noted n (putBuffers b c)) × (s′ ≡ s))
+      → buffer.FreeSlots (c .buffers .slots) (b .slots) → ((n ≡ 0 → ⊥) → RefusalKeeps (calls.object (calls.buffer k)) n c s (noted n (putBuffers b c)) × (s′ ≡ s))
       → Follows (calls.object (calls.buffer k)) c s n (noted n (putBuffers b c)) s′
-  buffer-follows s s′ h e sound kept =
+  buffer-follows s s′ h e sound free kept =
       record {
         number = ap (λ x. x .number) e;
         state = λ i. record {
           mode = c .mode;
-          stacks = view c s .stacks;
+          stacks = stateOf c s .stacks;
           objects = record { buffers = e i .after; arrays = c .arrays };
           attributes = c .attributes;
           pipeline = c .pipeline;
@@ -382,6 +422,7 @@ module _ (k : BufferCall) (c : Context) (n : ℕ) (b : Buffers) where
         sound = record { stacks = h .stacks; buffers = sound; client-unit = h .client-unit; active-unit = h .active-unit };
         stacks = refl;
         slots = λ e. never true refl e;
+        free = free;
         refusal = kept;
       }
 
@@ -397,13 +438,15 @@ module _ (k : BufferCall) (c : Context) (n : ℕ) (b : Buffers) where
     buffer-does e a s =
         record {
           invalid = λ q. let u = a .unsound (λ p. q (record { sound = whole p; store = λ t. never (isUpload k) t e })) in (u .0, unchanged (u .0) (u .1), refl);
-          follows = λ v. buffer-follows s s (v .sound) (a .ruled (v .sound .buffers) s) (a .kept (v .sound .buffers)) (λ q. (
-            ⊎-elim
-                (λ z. inr (only-bind k _ e (sym (ap (λ x. x .number) (a .ruled (v .sound .buffers) s)) ∙ z), z, refl))
-                (λ z. inl (ap (λ x. noted n (putBuffers x c)) (a .stays q z)))
-                (same? n 0x0500),
-            refl,
-          ));
+          follows = λ v.
+              let number = ap (λ (x : buffer.Answer). x .number) (a .ruled (v .sound .buffers) s) in
+              buffer-follows s s (v .sound) (a .ruled (v .sound .buffers) s) (a .kept (v .sound .buffers)) (a .free) (λ q. (
+                ⊎-elim
+                    (λ same. inl (ap (λ x. noted n (putBuffers x c)) (a .stays q s same)))
+                    (λ m. inr ((m .0, number ∙ m .1), refl))
+                    (refused-same k (buffer.objects (c .buffers) s) (live-below (c .buffers) (v .sound .buffers) s) e (λ z. q (number ∙ z))),
+                refl,
+              ));
           size = refl;
         }
 
@@ -415,7 +458,7 @@ module _ (k : BufferCall) (c : Context) (n : ℕ) (b : Buffers) where
               let u = a .invalid (λ p l. q (record { sound = whole p; store = λ _. l })) in
               let kept = a .stays (λ z. omega arith) in
               (u, unchanged u (kept .0), kept .1);
-          follows = λ v. buffer-follows s s′ (v .sound) (a .ruled (v .sound .buffers) (v .store e)) (a .kept (v .sound .buffers))
+          follows = λ v. buffer-follows s s′ (v .sound) (a .ruled (v .sound .buffers) (v .store e)) (a .kept (v .sound .buffers)) (a .free)
               (λ q. (inl (ap (λ x. noted n (putBuffers x c)) (a .stays q .0)), a .stays q .1));
           size = a .size;
         }
@@ -432,7 +475,7 @@ draw-unready d c s out h = (
 
 -- a draw that goes by the draw rules
 pub draw-did : (d : DrawCall) (c : Context) (s : List ℕ) (r : Drawn) (out out′ : List Float) → Sound c × (length s ≡ buffer.storeBytes)
-    → Draws (drawing (view c s .stacks) (view c s .objects) (view c s .attributes) d) r out out′
+    → Draws (drawing (stateOf c s .stacks) (stateOf c s .objects) (stateOf c s .attributes) d) r out out′
     → Did (calls.draw d) c s (r .number) (noted (r .number) c) s × Drew d c s r out out′
 draw-did d c s r out out′ h e = (
   record {
@@ -441,8 +484,8 @@ draw-did d c s r out out′ h e = (
       number = e .number;
       state = λ i. record {
         mode = c .mode;
-        stacks = view c s .stacks;
-        objects = view c s .objects;
+        stacks = stateOf c s .stacks;
+        objects = stateOf c s .objects;
         attributes = c .attributes;
         pipeline = c .pipeline;
         error = slotAfter (e .number i) (c .error);
@@ -450,6 +493,7 @@ draw-did d c s r out out′ h e = (
       sound = record { stacks = v .sound .stacks; buffers = v .sound .buffers; client-unit = v .sound .client-unit; active-unit = v .sound .active-unit };
       stacks = refl;
       slots = λ _. refl;
+      free = free-same;
       refusal = λ q. (inl refl, refl);
     };
     size = refl;
@@ -457,8 +501,9 @@ draw-did d c s r out out′ h e = (
   record { invalid = λ q. absurd (q (record { sound = h .0; store = λ _. h .1 })); drawn = λ v. e },
 )
 
--- the same, from what the inner draw makes of the context's scene
-pub draw-from : (source : Source) (mode stages base : ℕ) (guest : List ℕ) (c : Context) (s : List ℕ) (x : Scene) (r : Drawn) (out out′ : List Float) → x ≡ sceneFor c base stages
+-- the same, from what the inner draw makes of the context's draw inputs
+pub draw-from : (source : Source) (mode stages base : ℕ) (guest : List ℕ) (c : Context) (s : List ℕ) (x : DrawInputs) (r : Drawn) (out out′ : List Float)
+    → x ≡ inputsFor c base stages
     → Sound c × (length s ≡ buffer.storeBytes) → Draws (drawIn (sceneIn x s guest) (c .buffers .«element_buffer») mode source (length out)) r out out′
     → Did (calls.draw (drawCall source mode stages base guest (length out))) c s (r .number) (noted (r .number) c) s
     × Drew (drawCall source mode stages base guest (length out)) c s r out out′
@@ -489,13 +534,14 @@ new-fresh t b a v p e f g h q =
       };
       state = λ s i. record {
         mode = MatrixMode.Modelview;
-        stacks = λ m. (ap stack.stateOf (every m) ∙ fresh-state) i;
+        stacks = λ m. (ap stack.stackStateOf (every m) ∙ fresh-state) i;
         objects = record { buffers = f .state s i; arrays = g i };
         attributes = h i;
         pipeline = q i;
         error = 0;
       };
       stacks = every;
+      lengths = f .lengths;
     }
   where
     every : (m : MatrixMode) → stackAt m (record { modelview = t; projection = t; texture = t }) ≡ stack.freshStack

@@ -9,10 +9,11 @@ use borrow.Author.Tests.{lt-ltb, le-ltb}
 use lib.Dec.{ltb, eqb}
 use lib.ListN.{length}
 use Rattle.stack.specs.Stack as stack
-use Rattle.stack.specs.Stack.{limit, MatrixUpdate, updateNumber, update, push, pop, answer, changed, stackAnswer}
+use Rattle.stack.specs.Stack.{limit, MatrixUpdate, updateNumber, update, push, pop, stackAnswered, changed, stackAnswer}
 use Rattle.stack.specs.declared.MatrixStack.{MatrixStack}
 use Rattle.buffers.specs.Objects as buffer
-use Rattle.buffers.specs.Objects.{nameAt, lenAt, slotOf, slotBytes, storeBytes, Bindable, SlotSound}
+use Rattle.buffers.specs.Objects.{nameAt, lenAt, slotOf, slotBytes, storeBytes, Bindable}
+use Rattle.buffers.specs.ObjectsCode.{SlotSound}
 use Rattle.buffers.specs.declared.Slot.{Slot}
 use Rattle.buffers.specs.declared.Buffers.{Buffers}
 use Rattle.buffers.proofs.Bounds.{lt-or-ge, same?}
@@ -21,11 +22,11 @@ use Rattle.arrays.specs.Arrays.{unitCount}
 use Rattle.context.specs.declared.MatrixMode.{MatrixMode}
 use Rattle.context.specs.declared.Stacks.{Stacks}
 use Rattle.context.specs.declared.Context.{Context}
-use Rattle.context.specs.State.{stackAt, view, Sound}
+use Rattle.context.specs.State.{stackAt, stateOf, Sound}
 use Rattle.context.specs.Calls.{buffer, array, borrowsStore, Call, matrix, mode, object, attribute, pipeline, takeError, draw}
 use Rattle.context.specs.Rules.{step}
-use Rattle.context.specs.Contract.{putStack, stacksAfter, currentsOf, withCurrent, putCurrents, putStacks, putMode, putBuffers, putArrays}
-use Rattle.context.specs.Contract.{putAttributes, putPipeline, putError, Valid, Follows, Did}
+use Rattle.context.specs.Contract.{putStack, putBuffers, putError, stacksAfter, Valid, Follows, Did}
+use Rattle.context.specs.ContractCode.{currentsOf, withCurrent, putCurrents, putStacks, putMode, putArrays, putAttributes, putPipeline}
 
 -- ---- a call is valid or it is not
 
@@ -138,7 +139,8 @@ update-current : (u : MatrixUpdate) (s : MatrixStack) → withCurrent (stackAnsw
 unfolding stackAnswer
 update-current u s = go (ltb limit (s .depth)) (eqb (updateNumber u) 0)
   where
-    go : (b d : Bool) → let a = cond b (answer 1 s) (cond d (answer 0 (changed (update u) s)) (answer (updateNumber u) s)) in withCurrent (a .stack .current) s ≡ a .stack
+    go : (b d : Bool)
+        → let a = cond b (stackAnswered 1 s) (cond d (stackAnswered 0 (changed (update u) s)) (stackAnswered (updateNumber u) s)) in withCurrent (a .stack .current) s ≡ a .stack
     go true d = refl
     go false true = refl
     go false false = refl
@@ -151,7 +153,7 @@ update-currents u MatrixMode.Texture t = ap (λ (x : MatrixStack). putStack Matr
 module _ {c c1 : Context} {n : ℕ} {s s1 : List ℕ} where
   -- all that the rule says of the parts
   ruled : (k : Call) → Follows k c s n c1 s1 → (b : Buffers) → b ≡ c1 .buffers
-      → let r = step k (view c s) in
+      → let r = step k (stateOf c s) in
       record { mode = r .mode; stacks = stacksAfter k c; buffers = b; arrays = r .objects .arrays; attributes = r .attributes; pipeline = r .pipeline; error = c1 .error } ≡ c1
   ruled k f b e =
       let p = sym (f .state) in

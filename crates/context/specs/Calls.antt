@@ -9,9 +9,9 @@ use Rattle.pipeline.specs.Pipeline.{PipelineCall}
 use Rattle.vertex.specs.Scene.{DrawCall}
 
 pub data BufferCall : Type 0 where
-  gen : (n : ℕ) → BufferCall
-  bind : (target name : ℕ) → BufferCall
-  delete : (names : List ℕ) → BufferCall
+  genBuffers : (n : ℕ) → BufferCall
+  bindBuffer : (target name : ℕ) → BufferCall
+  deleteBuffers : (names : List ℕ) → BufferCall
   bufferData : (target size : ℕ) (bytes : List ℕ) (usage : ℕ) → BufferCall
   bufferSubData : (target offset : ℕ) (bytes : List ℕ) → BufferCall
 
@@ -41,9 +41,9 @@ ofBuffers p takeError = false
 ofBuffers p (draw d) = false
 
 abbrev pub isUpload : BufferCall → Bool
-isUpload (gen n) = false
-isUpload (bind target name) = false
-isUpload (delete names) = false
+isUpload (genBuffers n) = false
+isUpload (bindBuffer target name) = false
+isUpload (deleteBuffers names) = false
 isUpload (bufferData target size bytes usage) = true
 isUpload (bufferSubData target offset bytes) = true
 
@@ -57,10 +57,3 @@ borrowsStore (attribute k) = false
 borrowsStore (pipeline k) = false
 borrowsStore takeError = false
 borrowsStore (draw d) = true
-
-abbrev pub isBind : BufferCall → Bool
-isBind (gen n) = false
-isBind (bind target name) = true
-isBind (delete names) = false
-isBind (bufferData target size bytes usage) = false
-isBind (bufferSubData target offset bytes) = false

@@ -2,5 +2,6 @@ pub mod State
 pub mod Calls
 pub mod Rules
 pub mod Contract
+pub mod ContractCode
 pub mod Settles
 pub mod Examples

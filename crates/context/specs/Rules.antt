@@ -1,5 +1,5 @@
 -- What each call answers and makes of the state of a sound context (01, whole; the draw rules are crate draw's).
-use mathlib.Core.Bool.{Bool, true, false, cond, _&&_}
+use mathlib.Core.Bool.{Bool, true, false, not, cond, _&&_}
 use mathlib.Core.List.{List, [], _∷_}
 use mathlib.Core.Option.{Option, some, none, Option·getD}
 use Prim.Native.Nat.{ℕ}
@@ -17,7 +17,7 @@ use Rattle.vertex.specs.Scene.{DrawState, DrawCall}
 use Rattle.draw.specs.Draw.{Drawing, drawOf}
 use Rattle.context.specs.declared.MatrixMode.{MatrixMode}
 use Rattle.context.specs.State.{ObjectState, State}
-use Rattle.context.specs.Calls.{BufferCall, gen, bind, delete, bufferData, bufferSubData, ObjectCall, buffer, array, Call, matrix, mode}
+use Rattle.context.specs.Calls.{BufferCall, genBuffers, bindBuffer, deleteBuffers, bufferData, bufferSubData, ObjectCall, buffer, array, Call, matrix, mode}
 use Rattle.context.specs.Calls.{object, attribute, pipeline, takeError, draw}
 
 -- ---- one part of the state replaced
@@ -67,12 +67,20 @@ sameMode MatrixMode.Texture MatrixMode.Texture = true
 -- ---- buffer, pointer and client calls
 
 abbrev pub bufferAnswer : BufferCall → objects.Objects → objects.Answer
-bufferAnswer (gen n) o = objects.genBuffers o n
-bufferAnswer (bind target name) o = objects.bindBuffer o target name
-bufferAnswer (delete ns) o = objects.deleteBuffers o ns
+bufferAnswer (genBuffers n) o = objects.genAnswer o n
+bufferAnswer (bindBuffer target name) o = objects.bindAnswer o target name
+bufferAnswer (deleteBuffers ns) o = objects.deleteAnswer o ns
 -- the usage word is not kept
-bufferAnswer (bufferData target size bytes usage) o = objects.bufferData o target size bytes
-bufferAnswer (bufferSubData target offset bytes) o = objects.bufferSubData o target offset bytes
+bufferAnswer (bufferData target size bytes usage) o = objects.dataAnswer o target size bytes
+bufferAnswer (bufferSubData target offset bytes) o = objects.subDataAnswer o target offset bytes
+
+-- whether a call makes a name although its target is refused: bind of a name that is neither 0 nor live
+abbrev pub makesName : BufferCall → objects.Objects → Bool
+makesName (genBuffers n) o = false
+makesName (bindBuffer target name) o = not (eqb name 0) && objects.absent (o .contents name)
+makesName (deleteBuffers ns) o = false
+makesName (bufferData target size bytes usage) o = false
+makesName (bufferSubData target offset bytes) o = false
 
 abbrev pub objectNumber : ObjectCall → ObjectState → ℕ
 objectNumber (buffer k) o = bufferAnswer k (o .buffers) .number

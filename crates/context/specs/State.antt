@@ -34,7 +34,7 @@ abbrev pub freshState : State
 freshState =
     record {
       mode = MatrixMode.Modelview;
-      stacks = λ m. stack.freshState;
+      stacks = λ m. stack.freshStackState;
       objects = record { buffers = buffer.freshObjects; arrays = freshArrays };
       attributes = freshAttributes;
       pipeline = freshPipeline;
@@ -50,11 +50,11 @@ stackAt MatrixMode.Projection t = t .projection
 stackAt MatrixMode.Texture t = t .texture
 
 -- Which slot holds a name, the store's bytes outside live buffers, and the places of a stack that save nothing do not show in it.
-abbrev pub view : Context → List ℕ → State
-view c s =
+abbrev pub stateOf : Context → List ℕ → State
+stateOf c s =
     record {
       mode = c .mode;
-      stacks = λ m. stack.stateOf (stackAt m (c .stacks));
+      stacks = λ m. stack.stackStateOf (stackAt m (c .stacks));
       objects = record { buffers = buffer.objects (c .buffers) s; arrays = c .arrays };
       attributes = c .attributes;
       pipeline = c .pipeline;
@@ -70,14 +70,9 @@ pub record Sound (c : Context) : Type 0 where
   pub client-unit : c .arrays .«client_active_texture» < unitCount
   pub active-unit : c .pipeline .«active_texture» < unitCount
 
--- for the code: all of it but the buffers
-pub record SoundApart (c : Context) : Type 0 where
-  pub stacks : (m : MatrixMode) → stack.Sound (stackAt m (c .stacks))
-  pub client-unit : c .arrays .«client_active_texture» < unitCount
-  pub active-unit : c .pipeline .«active_texture» < unitCount
-
--- What a fresh context promises: it is sound, it stands for the fresh state over any store, and its stacks are fresh in every place.
+-- What a fresh context promises: it is sound, it stands for the fresh state over any store, its stacks are fresh in every place, and no slot has a length.
 pub record Fresh (c : Context) : Type 0 where
   pub sound : Sound c
-  pub state : (s : List ℕ) → view c s ≡ freshState
+  pub state : (s : List ℕ) → stateOf c s ≡ freshState
   pub stacks : (m : MatrixMode) → stackAt m (c .stacks) ≡ stack.freshStack
+  pub lengths : (k : ℕ) → k < buffer.slotCount → buffer.lenAt (c .buffers .slots) k ≡ 0

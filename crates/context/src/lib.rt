@@ -13,7 +13,7 @@ use pipeline::Pipeline;
 use pipeline::PipelineAnswer;
 use stack::Matrix;
 use stack::MatrixStack;
-use vertex::Scene;
+use vertex::DrawInputs;
 ghost use mathlib.Core.Path.{_≡_};
 ghost use Prim.Native.Nat.{_<_};
 ghost use Rattle.number.specs.Decides.{Decides};
@@ -22,10 +22,11 @@ ghost use Rattle.matrix.specs.Matrix.{product};
 ghost use Rattle.stack.specs.Stack as stack;
 ghost use Rattle.buffers.specs.Objects.{storeBytes};
 ghost use Rattle.arrays.specs.Arrays.{unitCount};
-ghost use Rattle.context.specs.State.{stackAt, Sound, SoundApart, Fresh};
+ghost use Rattle.context.specs.State.{stackAt, Sound, Fresh};
 ghost use Rattle.context.specs.Rules.{matrixModes, slotAfter};
-ghost use Rattle.context.specs.Contract.{currentAt, putCurrent, currentsOf, putCurrents, putStacks, putBuffers, putArrays, putAttributes, putPipeline};
-ghost use Rattle.context.specs.Contract.{noted, modeOf, reply, Settled, sceneFor, drawReply};
+ghost use Rattle.context.specs.Contract.{putBuffers, noted, drawReply};
+ghost use Rattle.context.specs.ContractCode.{SoundApart, currentAt, putCurrent, currentsOf, putCurrents, putStacks, putArrays, putAttributes, putPipeline};
+ghost use Rattle.context.specs.ContractCode.{modeOf, reply, Settled, inputsFor};
 
 // The stack that matrix calls go to.
 pub enum MatrixMode {
@@ -371,8 +372,8 @@ impl Context {
     }
 
     // What a draw's vertices are made from.
-    pub fn scene(self, base: u32, stages: u32) -> Scene
-        ensures { λ r. ⌜ r ≡ sceneFor self base stages ⌝ }
+    pub fn draw_inputs(self, base: u32, stages: u32) -> DrawInputs
+        ensures { λ r. ⌜ r ≡ inputsFor self base stages ⌝ }
     {
         let stacks = self.stacks;
         let view = stacks.modelview.current;
@@ -385,7 +386,7 @@ impl Context {
         let buffers = self.buffers;
         let arrays = self.arrays;
         let attributes = self.attributes;
-        Scene {
+        DrawInputs {
             transform,
             modelview,
             texture,

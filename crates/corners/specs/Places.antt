@@ -1,7 +1,7 @@
 -- Triangles (01: "Draws"): how many there are, and which places of the index list are their corners.
 use mathlib.Core.Bool.{cond}
 use Prim.Native.Nat.{ℕ, _+_, _-_, _*_, _/_, _%_}
-use lib.Dec.{eqb, ltb}
+use lib.Dec.{eqb}
 use Rattle.corners.specs.declared.Corners.{Corners}
 use Rattle.corners.specs.declared.Primitive.{Primitive}
 
@@ -24,14 +24,3 @@ cornersOf Primitive.Fan t = record { a = 0; b = t + 1; c = t + 2 }
 -- the place in the index list of a corner, the corners of all triangles numbered from 0
 abbrev pub cornerPlace : Primitive → ℕ → ℕ
 cornerPlace p c = cond (eqb (c % 3) 0) (cornersOf p (c / 3) .a) (cond (eqb (c % 3) 1) (cornersOf p (c / 3) .b) (cornersOf p (c / 3) .c))
-
--- ---- for the code: numbers below 2^62 alone, so that no place passes 64 bits
-
-abbrev pub reach : ℕ
-reach = 0x4000_0000_0000_0000
-
-abbrev pub cornersIn : Primitive → ℕ → Corners
-cornersIn p t = cond (ltb t reach) (cornersOf p t) (record { a = 0; b = 0; c = 0 })
-
-abbrev pub placeIn : Primitive → ℕ → ℕ
-placeIn p c = cond (ltb c reach) (cornerPlace p c) 0

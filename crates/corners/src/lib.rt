@@ -1,6 +1,7 @@
 // Which places of a list of indices are the corners of triangles, and how many triangles there are.
 ghost use mathlib.Core.Path.{_≡_};
-ghost use Rattle.corners.specs.Places.{triangleCount, primitiveOf, cornersIn, placeIn};
+ghost use Rattle.corners.specs.Places.{triangleCount, primitiveOf};
+ghost use Rattle.corners.specs.PlacesCode.{cornersIn, placeIn};
 
 pub enum Primitive {
     Triangles,

@@ -14,7 +14,7 @@ use Rattle.vertex.specs.Questions.{listNumber, validation}
 use Rattle.vertex.specs.declared.Vertex.{Vertex}
 use Rattle.corners.specs.Places.{triangleCount, primitiveOf}
 use Rattle.draw.specs.Triangles.{Triangle, trianglesTo, wordsOf}
-use Rattle.draw.specs.Draw.{vertexAt, trianglesOf, answered, drawIn, Draws}
+use Rattle.draw.specs.Draw.{vertexAt, trianglesOf, drawAnswer, drawIn, Draws}
 use Rattle.draw.specs.declared.Drawn.{Drawn}
 use Rattle.corners.specs.declared.Primitive.{Primitive}
 use Rattle.draw.proofs.Laws.{count-triangles, words-stored}
@@ -30,16 +30,16 @@ pub count-drawn : (s : Scene) (mode : ℕ) (is : List ℕ) → length (triangles
 count-drawn s mode is = count-triangles (vertexAt s is) (primitiveOf mode) (triangleCount (primitiveOf mode) (length is))
 
 module _ (ts : List Triangle) (out : List Float) where
-  pub refused-draw : (number : ℕ) → (number ≡ 0 → ⊥) → Draws (answered number (length out) ts) (record { number = number; count = 0 }) out out
+  pub refused-draw : (number : ℕ) → (number ≡ 0 → ⊥) → Draws (drawAnswer number (length out) ts) (record { number = number; count = 0 }) out out
   unfolding wordsOf
   refused-draw number h = rw (ne-eqb number 0 h) (record { number = refl; count = refl; output = refl })
 
-  pub no-room : length out < 51 * length ts → Draws (answered 0 (length out) ts) (record { number = 11; count = 0 }) out out
+  pub no-room : length out < 51 * length ts → Draws (drawAnswer 0 (length out) ts) (record { number = 11; count = 0 }) out out
   unfolding wordsOf
   no-room h = rw (lt-ltb _ _ h) (record { number = refl; count = refl; output = refl })
 
   pub drawn : (count : ℕ) (out′ : List Float) → count ≡ length ts → 51 * length ts ≤ length out → out′ ≡ sets out 0 (wordsOf ts)
-      → Draws (answered 0 (length out) ts) (record { number = 0; count = count }) out out′
+      → Draws (drawAnswer 0 (length out) ts) (record { number = 0; count = count }) out out′
   drawn count out′ e h stored = rw (le-ltb _ _ h) (record { number = refl; count = e; output = stored ∙ words-stored ts out h })
 
 -- ---- from the parts of a draw to the draw
@@ -51,13 +51,13 @@ module _ (s : Scene) (element mode : ℕ) (source : Source) where
   draw-refused out k e h = rw e (refused-draw (trianglesOf s mode (indicesFrom s element source)) out k h)
 
   pub draw-listed : (n room : ℕ) (is : List ℕ) (r : Drawn) (out out′ : List Float) → validation s element mode source ≡ n → indicesFrom s element source ≡ is
-      → Draws (answered n room (trianglesOf s mode is)) r out out′ → Draws (drawIn s element mode source room) r out out′
+      → Draws (drawAnswer n room (trianglesOf s mode is)) r out out′ → Draws (drawIn s element mode source room) r out out′
   unfolding drawIn
   draw-listed n room is r out out′ e f d = rw (e, f) d
 
   pub draw-by-list : (room : ℕ) (is : List ℕ) (r : Drawn) (out out′ : List Float)
       → validation s element mode source ≡ listNumber s mode (indicesFrom s element source) → indicesFrom s element source ≡ is
-      → Draws (answered (listNumber s mode is) room (trianglesOf s mode is)) r out out′ → Draws (drawIn s element mode source room) r out out′
+      → Draws (drawAnswer (listNumber s mode is) room (trianglesOf s mode is)) r out out′ → Draws (drawIn s element mode source room) r out out′
   draw-by-list room is r out out′ e f d = draw-listed (listNumber s mode is) room is r out out′ (e ∙ ap (listNumber s mode) f) f d
 
 -- no index, no triangle

@@ -32,15 +32,15 @@ pub record Drawing : Type 0 where
   pub number : ℕ
   pub triangles : List Triangle
 
-abbrev pub answered : ℕ → ℕ → List Triangle → Drawing
-answered number room ts =
+abbrev pub drawAnswer : ℕ → ℕ → List Triangle → Drawing
+drawAnswer number room ts =
     cond (not (eqb number 0)) (record { number = number; triangles = [] })
     (cond (ltb room (51 * length ts)) (record { number = 11; triangles = [] })
     (record { number = 0; triangles = ts }))
 
 -- by the scene, the element binding and the draw's arguments
 unfoldable pub drawIn : Scene → ℕ → ℕ → Source → ℕ → Drawing
-drawIn s element mode source room = answered (validation s element mode source) room (trianglesOf s mode (indicesFrom s element source))
+drawIn s element mode source room = drawAnswer (validation s element mode source) room (trianglesOf s mode (indicesFrom s element source))
 
 abbrev pub drawOf : DrawState → DrawCall → Drawing
 drawOf s d = drawIn (sceneOf s d) (s .element) (d .mode) (d .source) (d .room)

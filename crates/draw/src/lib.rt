@@ -1,20 +1,20 @@
 // Drawing below the calls: the triangles in the output, the three draws.
 use corners::Primitive;
+use vertex::DrawInputs;
 use vertex::Indices;
-use vertex::Scene;
 ghost use mathlib.Core.Path.{_≡_};
 ghost use Prim.Native.Nat.{ℕ, _+_, _*_, _<_, _≤_};
 ghost use lib.ListN.{length, take, drop};
 ghost use lib.Seq.{sets};
 ghost use Rattle.vertex.specs.Scene.{Source};
-ghost use Rattle.vertex.specs.Represented.{sceneIn, indexList};
+ghost use Rattle.vertex.specs.SceneCode.{sceneIn, indexList};
 ghost use Rattle.vertex.specs.Questions.{listNumber};
 ghost use Rattle.draw.specs.Triangles.{trianglesTo, wordsOf};
-ghost use Rattle.draw.specs.Draw.{vertexAt, trianglesOf, answered, drawIn, Draws};
+ghost use Rattle.draw.specs.Draw.{vertexAt, trianglesOf, drawAnswer, drawIn, Draws};
 
 // Writes the first `count` triangles.
 fn write_triangles<'a>(
-    s: Scene,
+    s: DrawInputs,
     store: &'a [u8],
     guest: &'a [u8],
     p: Primitive,
@@ -40,7 +40,7 @@ pub struct Drawn {
 
 // Draws a list of indices.
 fn draw_indices<'a>(
-    s: Scene,
+    s: DrawInputs,
     store: &'a [u8],
     guest: &'a [u8],
     mode: u32,
@@ -49,7 +49,7 @@ fn draw_indices<'a>(
     elements: &[u8],
     out: &mut [f32],
 ) -> Drawn
-    ensures { λ r. ⌜ Draws (answered (listNumber (sceneIn s (now (store .entry)) (now (guest .entry))) mode (indexList kind (now (list .entry)) (now (elements .entry))))
+    ensures { λ r. ⌜ Draws (drawAnswer (listNumber (sceneIn s (now (store .entry)) (now (guest .entry))) mode (indexList kind (now (list .entry)) (now (elements .entry))))
         (length (now (out .entry))) (trianglesOf (sceneIn s (now (store .entry)) (now (guest .entry))) mode (indexList kind (now (list .entry)) (now (elements .entry)))))
         r (now (out .entry)) (now (out .exit)) ⌝ }
 {
@@ -72,7 +72,7 @@ fn draw_indices<'a>(
 
 // Draws a borrowed list of indices.
 pub fn draw_list<'a>(
-    s: Scene,
+    s: DrawInputs,
     store: &'a [u8],
     guest: &'a [u8],
     mode: u32,
@@ -93,7 +93,7 @@ pub fn draw_list<'a>(
 
 // Draws the indices from `first` on.
 pub fn draw_range<'a>(
-    s: Scene,
+    s: DrawInputs,
     store: &'a [u8],
     guest: &'a [u8],
     mode: u32,
@@ -117,7 +117,7 @@ pub fn draw_range<'a>(
 
 // Draws indices that lie in the element buffer, or in guest memory where none is bound.
 pub fn draw_stored<'a>(
-    s: Scene,
+    s: DrawInputs,
     store: &'a [u8],
     guest: &'a [u8],
     mode: u32,

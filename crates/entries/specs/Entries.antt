@@ -103,13 +103,13 @@ pub record Entries : Type 0 where
       → Does (Call.matrix (MatrixCall.update (MatrixUpdate.ortho left right bottom top near far))) c (r .number) (r .context)
   pub gen-buffers : (c : Context) (n : ℕ) (r : GenReply)
       → Of gen-buffers-promise.Learnt (c, (n, tt)) r
-      → Does (Call.object (ObjectCall.buffer (BufferCall.gen n))) c (r .number) (r .context)
+      → Does (Call.object (ObjectCall.buffer (BufferCall.genBuffers n))) c (r .number) (r .context)
   pub bind-buffer : (c : Context) (target name : ℕ) (r : Reply)
       → Of bind-buffer-promise.Learnt (c, (target, (name, tt))) r
-      → Does (Call.object (ObjectCall.buffer (BufferCall.bind target name))) c (r .number) (r .context)
+      → Does (Call.object (ObjectCall.buffer (BufferCall.bindBuffer target name))) c (r .number) (r .context)
   pub delete-buffers : (κs : Lfts 1) (c : Context) (names : RefT (List ℕ)) (r : Reply)
       → delete-buffers-promise.Learnt κs (c, (names, tt)) r (c, (names, tt))
-      → Does (Call.object (ObjectCall.buffer (BufferCall.delete (now names)))) c (r .number) (r .context)
+      → Does (Call.object (ObjectCall.buffer (BufferCall.deleteBuffers (now names)))) c (r .number) (r .context)
   pub buffer-data : (κs : Lfts 2) (c : Context) (store bytes : RefT (List ℕ)) (s1 : List ℕ) (target size usage : ℕ) (r : Reply)
       → buffer-data-promise.Learnt κs (c, (store, (target, (size, (bytes, (usage, tt)))))) r (c, (at-last store s1, (target, (size, (bytes, (usage, tt))))))
       → Did (Call.object (ObjectCall.buffer (BufferCall.bufferData target size (now bytes) usage))) c (now store) (r .number) (r .context) s1

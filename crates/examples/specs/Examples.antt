@@ -22,8 +22,8 @@ use Rattle.corners.specs.Places.{triangleCount, cornersOf}
 use Rattle.corners.specs.declared.Primitive.{Primitive}
 
 -- the indices at the corners of a list's triangles
-abbrev pub cornersIn : List ℕ → Primitive → List ℕ → List (List ℕ)
-cornersIn is p ts = map (λ t. getD is (cornersOf p t .a) 0 ∷ getD is (cornersOf p t .b) 0 ∷ getD is (cornersOf p t .c) 0 ∷ []) ts
+abbrev pub cornerIndices : List ℕ → Primitive → List ℕ → List (List ℕ)
+cornerIndices is p ts = map (λ t. getD is (cornersOf p t .a) 0 ∷ getD is (cornersOf p t .b) 0 ∷ getD is (cornersOf p t .c) 0 ∷ []) ts
 
 abbrev pub seven : List ℕ
 seven = 7 ∷ 8 ∷ 9 ∷ 10 ∷ []
@@ -47,9 +47,9 @@ fiveFloats = record { enabled = true; size = 5; ty = 0x1406; stride = 0; pointer
 
 pub record BenchExamples : Type 0 where
   -- strip 7,8,9,10: (7,8,9),(9,8,10)
-  pub P1 : cornersIn seven Primitive.Strip (upFrom 0 (triangleCount Primitive.Strip 4)) ≡ (7 ∷ 8 ∷ 9 ∷ []) ∷ (9 ∷ 8 ∷ 10 ∷ []) ∷ []
+  pub P1 : cornerIndices seven Primitive.Strip (upFrom 0 (triangleCount Primitive.Strip 4)) ≡ (7 ∷ 8 ∷ 9 ∷ []) ∷ (9 ∷ 8 ∷ 10 ∷ []) ∷ []
   -- fan: (7,8,9),(7,9,10)
-  pub P2 : cornersIn seven Primitive.Fan (upFrom 0 (triangleCount Primitive.Fan 4)) ≡ (7 ∷ 8 ∷ 9 ∷ []) ∷ (7 ∷ 9 ∷ 10 ∷ []) ∷ []
+  pub P2 : cornerIndices seven Primitive.Fan (upFrom 0 (triangleCount Primitive.Fan 4)) ≡ (7 ∷ 8 ∷ 9 ∷ []) ∷ (7 ∷ 9 ∷ 10 ∷ []) ∷ []
   -- list of 5: one; strip of 2: none
   pub P3 : (triangleCount Primitive.Triangles 5 ≡ 1) × (triangleCount Primitive.Strip 2 ≡ 0)
   -- fixed 98304: 1.5; 16777217: 256.0

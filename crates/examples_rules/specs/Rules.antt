@@ -10,13 +10,13 @@ use Rattle.number.specs.F32.{f1, f2}
 use Rattle.buffers.specs.Objects as objects
 use Rattle.buffers.specs.Bounded.{count}
 use Rattle.stack.specs.Stack.{frustum, ortho, update}
-use Rattle.pipeline.specs.Pipeline.{capability, freshPipeline, accepted, pipelineStep}
+use Rattle.pipeline.specs.Pipeline.{capability, freshPipeline, acceptedPipeline, pipelineStep}
 use Rattle.fetch.specs.Decode.{componentBytes}
 use Rattle.fetch.specs.Fetch.{bytes, unreadable, inGuest, partOf, addressOf, fetched}
 use Rattle.fetch.specs.declared.ArrayPointer.{ArrayPointer}
 use Rattle.fetch.specs.declared.Fetched.{Fetched}
 use Rattle.context.specs.State.{State, freshState}
-use Rattle.context.specs.Calls.{BufferCall, bind, delete, bufferData, bufferSubData, buffer, Call, matrix, object, pipeline}
+use Rattle.context.specs.Calls.{BufferCall, bindBuffer, deleteBuffers, bufferData, bufferSubData, buffer, Call, matrix, object, pipeline}
 use Rattle.context.specs.Rules.{numberOf, step}
 
 abbrev pub after : List Call → State
@@ -26,36 +26,36 @@ abbrev pub on : BufferCall → Call
 on k = object (buffer k)
 
 abbrev pub bound : List Call
-bound = on (bind 0x8892 1) ∷ []
+bound = on (bindBuffer 0x8892 1) ∷ []
 
 -- gen: live + n <= 16, but next + n passes 2^32-1: 5
-pub past-the-last-name : (o : objects.Objects) (n : ℕ) → objects.liveNames o + n ≤ 16 → 4294967295 < o .next + n → objects.genBuffers o n .number ≡ 5
-unfolding objects.genBuffers
+pub past-the-last-name : (o : objects.Objects) (n : ℕ) → objects.liveNames o + n ≤ 16 → 4294967295 < o .next + n → objects.genAnswer o n .number ≡ 5
+unfolding objects.genAnswer
 past-the-last-name o n h k = rw (le-ltb 16 (objects.liveNames o + n) h, lt-ltb 4294967295 (o .next + n) k)
 
 -- deleting skips 0, unknown and repeated names
-pub deletes : (numberOf (on (delete (0 ∷ 9 ∷ 1 ∷ 1 ∷ []))) (after bound) ≡ 0)
-    × (after (on (bind 0x8892 1) ∷ on (delete (0 ∷ 9 ∷ 1 ∷ 1 ∷ [])) ∷ []) .objects .buffers .contents 1 ≡ none)
-    × (after (on (bind 0x8892 1) ∷ on (delete (0 ∷ 9 ∷ [])) ∷ []) .objects .buffers .contents 1 ≡ some [])
-unfolding objects.bindBuffer objects.named objects.liveNames count objects.deleteNames objects.deleteName
+pub deletes : (numberOf (on (deleteBuffers (0 ∷ 9 ∷ 1 ∷ 1 ∷ []))) (after bound) ≡ 0)
+    × (after (on (bindBuffer 0x8892 1) ∷ on (deleteBuffers (0 ∷ 9 ∷ 1 ∷ 1 ∷ [])) ∷ []) .objects .buffers .contents 1 ≡ none)
+    × (after (on (bindBuffer 0x8892 1) ∷ on (deleteBuffers (0 ∷ 9 ∷ [])) ∷ []) .objects .buffers .contents 1 ≡ some [])
+unfolding objects.bindAnswer objects.named objects.liveNames count objects.deleteNames objects.deleteName
 deletes = (refl, refl, refl)
 
 -- data: such a target? 0x0500; bound? 0x0502. Sub-data: such a target, and bound? 0x0502
 pub targets : (numberOf (on (bufferData 0 0 [] 0)) freshState ≡ 0x0500) × (numberOf (on (bufferData 0x8892 0 [] 0)) freshState ≡ 0x0502)
     × (numberOf (on (bufferSubData 0 0 [])) freshState ≡ 0x0502) × (numberOf (on (bufferSubData 0x8892 0 [])) freshState ≡ 0x0502)
-unfolding objects.bufferData objects.bufferSubData
+unfolding objects.dataAnswer objects.subDataAnswer
 targets = (refl, refl, refl, refl)
 
 -- no data acts as empty data
-pub no-data : after (on (bind 0x8892 1) ∷ on (bufferData 0x8892 2 [] 0) ∷ []) .objects .buffers .contents 1 ≡ some (0 ∷ 0 ∷ [])
-unfolding objects.bindBuffer objects.named objects.liveNames count objects.bufferData objects.padded
+pub no-data : after (on (bindBuffer 0x8892 1) ∷ on (bufferData 0x8892 2 [] 0) ∷ []) .objects .buffers .contents 1 ≡ some (0 ∷ 0 ∷ [])
+unfolding objects.bindAnswer objects.named objects.liveNames count objects.dataAnswer objects.padded
 no-data = refl
 
-abbrev pub arrayOf : ℕ → ArrayPointer
-arrayOf ty = record { enabled = true; size = 1; ty = ty; stride = 0; pointer = 0; buffer = 1 }
+abbrev pub arrayOfType : ℕ → ArrayPointer
+arrayOfType ty = record { enabled = true; size = 1; ty = ty; stride = 0; pointer = 0; buffer = 1 }
 
 -- a fetch fails if the type is another, or the buffer is absent
-pub failures : (fetched (λ n. some (0 ∷ [])) 0 [] (arrayOf 0x1404) 0 false ≡ Fetched.UnknownType) × (fetched (λ n. none) 0 [] (arrayOf 0x1400) 0 false ≡ Fetched.NoBuffer)
+pub failures : (fetched (λ n. some (0 ∷ [])) 0 [] (arrayOfType 0x1404) 0 false ≡ Fetched.UnknownType) × (fetched (λ n. none) 0 [] (arrayOfType 0x1400) 0 false ≡ Fetched.NoBuffer)
 unfolding componentBytes addressOf partOf fetched
 failures = (refl, refl)
 
@@ -66,7 +66,7 @@ guest-reads = (refl, refl, refl, refl, refl)
 
 -- scissor is accepted and changes nothing
 pub scissor : (numberOf (pipeline (capability 0x0C11 true)) freshState ≡ 0) × (pipelineStep (capability 0x0C11 true) freshPipeline .pipeline ≡ freshPipeline)
-unfolding pipelineStep accepted
+unfolding pipelineStep acceptedPipeline
 scissor = (refl, refl)
 
 -- a comparison with NaN is false

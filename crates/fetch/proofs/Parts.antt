@@ -8,7 +8,7 @@ use lib.Dec.{leb}
 use lib.ListN.{length, take, drop, length-take, length-drop}
 use lib.Seq.{getD-take, getD-drop, ext-getD, drop-drop}
 use borrow.Author.Tests.{lt-leb, le-leb}
-use Rattle.buffers.specs.Objects.{contentsOf, slotOf, lenAt, bytesAt}
+use Rattle.buffers.specs.Objects.{contentsOf, slotOf, lenAt, bytesInSlot}
 use Rattle.buffers.specs.declared.Slot.{Slot}
 use Rattle.buffers.proofs.Slots.{slot-unknown, contents-none, contents-zero, contents-some}
 use Rattle.fetch.specs.Fetch.{Part, bytes, noBuffer, unreadable, inBuffer, inGuest}
@@ -35,18 +35,18 @@ module _ (slots : List Slot) (s : List ℕ) (n address len : ℕ) where
   none-slot k e h = rw (contents-none slots s n (slot-unknown slots n (omega arith)))
 
   module _ (z : n ≡ 0 → ⊥) (k : ℕ) (e : k ≡ slotOf slots n) (h : k < 16) (held : ℕ) (size : held ≡ min (lenAt slots k) (length s - 4096 * k)) where
-    in-slot : found ≡ inBuffer (some (bytesAt slots s k)) address len
+    in-slot : found ≡ inBuffer (some (bytesInSlot slots s k)) address len
     in-slot =
         ap (λ (o : Option (List ℕ)). inBuffer o address len)
-        (contents-some slots s n (omega (arith, z)) (omega arith) ∙ ap (λ (j : ℕ). some (bytesAt slots s j)) (sym e))
+        (contents-some slots s n (omega (arith, z)) (omega arith) ∙ ap (λ (j : ℕ). some (bytesInSlot slots s j)) (sym e))
 
-    long : length (bytesAt slots s k) ≡ held
+    long : length (bytesInSlot slots s k) ≡ held
     long = simp (length-take, length-drop) (sym size)
 
     pub slot-short : held < address + len → found ≡ unreadable
     slot-short m = in-slot ∙ simp (long, lt-leb (address + len) held m)
 
-    slot-bytes : address + len ≤ held → found ≡ bytes (take len (drop address (bytesAt slots s k)))
+    slot-bytes : address + len ≤ held → found ≡ bytes (take len (drop address (bytesInSlot slots s k)))
     slot-bytes m = in-slot ∙ simp (long, le-leb (address + len) held m)
 
     pub slot-empty : address + len ≤ held → len ≡ 0 → (0 + len ≤ length s) × (found ≡ bytes (take len (drop 0 s)))

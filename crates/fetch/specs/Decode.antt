@@ -7,7 +7,7 @@ use lib.Ieee.{Float, binary32, ofBits}
 use lib.IntN.{ℤ, pos}
 use lib.ListN.{take, drop}
 use Rattle.number.specs.F32.{nearest, f0, f1}
-use Rattle.number.specs.Numbers.{le, signedOf, fixed, unorm, snorm}
+use Rattle.number.specs.Numbers.{littleEndian, signedOf, fixed, unorm, snorm}
 use Rattle.fetch.specs.declared.Vec4.{Vec4}
 
 -- bytes of a component, 0 for an unknown type
@@ -37,7 +37,7 @@ componentOf ty normalize n =
 -- component i of an element's bytes, or what an absent one is
 abbrev pub component : ℕ → ℕ → Bool → List ℕ → ℕ → Float → Float
 component ty size normalize bytes i other =
-    cond (ltb i size) (componentOf ty normalize (le (take (componentBytes ty) (drop (componentBytes ty * i) bytes)))) other
+    cond (ltb i size) (componentOf ty normalize (littleEndian (take (componentBytes ty) (drop (componentBytes ty * i) bytes)))) other
 
 -- at most four components; absent ones are 0, 0, 0, 1
 unfoldable pub vectorOf : ℕ → ℕ → Bool → List ℕ → Vec4

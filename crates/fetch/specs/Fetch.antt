@@ -30,7 +30,7 @@ strideOf a = cond (eqb (a .stride) 0) (elementBytes a) (a .stride)
 
 -- an element's address with its length, or why it has none
 pub data Address : Type 0 where
-  at : (address len : ℕ) → Address
+  addressAt : (address len : ℕ) → Address
   unknownType : Address
   overflow : Address
 
@@ -42,7 +42,7 @@ addressOf a index =
     (cond (ltb lastAddress (elementBytes a)) overflow
     (cond (ltb lastAddress (strideOf a * index)) overflow
     (cond (ltb lastAddress (a .pointer + strideOf a * index)) overflow
-    (at (a .pointer + strideOf a * index) (elementBytes a)))))
+    (addressAt (a .pointer + strideOf a * index) (elementBytes a)))))
 
 -- ---- the bytes
 
@@ -92,7 +92,7 @@ decoded a normalize noBuffer = Fetched.NoBuffer
 decoded a normalize unreadable = Fetched.Unreadable
 
 abbrev pub fetchedAt : (ℕ → Option (List ℕ)) → ℕ → List ℕ → ArrayPointer → Bool → Address → Fetched
-fetchedAt contents base guest a normalize (at address len) = decoded a normalize (partOf contents base guest (a .buffer) address len)
+fetchedAt contents base guest a normalize (addressAt address len) = decoded a normalize (partOf contents base guest (a .buffer) address len)
 fetchedAt contents base guest a normalize unknownType = Fetched.UnknownType
 fetchedAt contents base guest a normalize overflow = Fetched.Overflow
 

@@ -1,4 +1,4 @@
 pub mod Decode
 pub mod Fetch
 pub mod Examples
-pub mod Places
+pub mod FetchCode

@@ -7,7 +7,7 @@ ghost use Prim.Native.Nat.{ℕ, _+_, _-_, _*_, _<_, _≤_, min};
 ghost use lib.ListN.{length, take, drop};
 ghost use Rattle.buffers.specs.Objects.{slotCount, slotBytes, contentsOf, lenAt};
 ghost use Rattle.fetch.specs.Fetch.{freshArray, inBuffer, inGuest, partOf, partState, isFound, bytesIn};
-ghost use Rattle.fetch.specs.Places.{partSource, Located, extentOf};
+ghost use Rattle.fetch.specs.FetchCode.{partSource, Located, extentOf};
 
 // Four components.
 pub struct Vec4 {

@@ -11,7 +11,7 @@ ghost use Rattle.context.specs.Contract.{Did, Does};
 
 // The first of n names, one after the other; 0 where none is made.
 pub fn gen_buffers(c: Context, n: usize) -> GenReply
-    ensures { λ r. ⌜ Does (Call.object (ObjectCall.buffer (BufferCall.gen n))) c (r .number) (r .context) ⌝ }
+    ensures { λ r. ⌜ Does (Call.object (ObjectCall.buffer (BufferCall.genBuffers n))) c (r .number) (r .context) ⌝ }
     ensures { λ r. ⌜ r .first ≡ genFirst (r .number) (c .buffers .next) n ⌝ }
 {
     if !c.is_sound_apart() {
@@ -36,7 +36,7 @@ pub fn gen_buffers(c: Context, n: usize) -> GenReply
 }
 
 pub fn bind_buffer(c: Context, target: u32, name: u32) -> Reply
-    ensures { λ r. ⌜ Does (Call.object (ObjectCall.buffer (BufferCall.bind target name))) c (r .number) (r .context) ⌝ }
+    ensures { λ r. ⌜ Does (Call.object (ObjectCall.buffer (BufferCall.bindBuffer target name))) c (r .number) (r .context) ⌝ }
 {
     if !c.is_sound_apart() {
         return c.refuse();
@@ -46,7 +46,7 @@ pub fn bind_buffer(c: Context, target: u32, name: u32) -> Reply
 }
 
 pub fn delete_buffers(c: Context, names: &[u32]) -> Reply
-    ensures { λ r. ⌜ Does (Call.object (ObjectCall.buffer (BufferCall.delete (now (names .entry))))) c (r .number) (r .context) ⌝ }
+    ensures { λ r. ⌜ Does (Call.object (ObjectCall.buffer (BufferCall.deleteBuffers (now (names .entry))))) c (r .number) (r .context) ⌝ }
 {
     if !c.is_sound_apart() {
         return c.refuse();

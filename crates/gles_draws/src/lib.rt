@@ -30,7 +30,7 @@ pub fn draw_elements<'a>(
             context: c,
         };
     }
-    let s = c.scene(base, stages);
+    let s = c.draw_inputs(base, stages);
     c.answer_draw(draw::draw_list(s, store, guest, mode, indices, out))
 }
 
@@ -58,7 +58,7 @@ pub fn draw_arrays<'a>(
             context: c,
         };
     }
-    let s = c.scene(base, stages);
+    let s = c.draw_inputs(base, stages);
     c.answer_draw(draw::draw_range(s, store, guest, mode, first, count, out))
 }
 
@@ -87,7 +87,7 @@ pub fn draw_elements_from_guest<'a>(
             context: c,
         };
     }
-    let s = c.scene(base, stages);
+    let s = c.draw_inputs(base, stages);
     let element = c.buffers.element_buffer;
     c.answer_draw(draw::draw_stored(s, store, guest, mode, element, count, ty, pointer, out))
 }

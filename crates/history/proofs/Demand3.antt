@@ -19,7 +19,7 @@ use Rattle.draw.proofs.Laws.{length-words}
 use Rattle.draw.proofs.Counts.{refused-none, accepted-count}
 use Rattle.context.specs.declared.Context.{Context}
 use Rattle.context.specs.declared.DrawReply.{DrawReply}
-use Rattle.context.specs.State.{State, freshState, view, Sound}
+use Rattle.context.specs.State.{State, freshState, stateOf, Sound}
 use Rattle.context.specs.Calls.{Call}
 use Rattle.context.specs.Rules.{drawing, step}
 use Rattle.context.specs.Contract.{drawnOf}
@@ -31,7 +31,7 @@ use Rattle.history.proofs.Replay.{run, run-more, run-draw}
 pub record Reached (l : List Call) (c : Context) (s : List ℕ) : Type 0 where
   pub sound : Sound c
   pub size : length s ≡ storeBytes
-  pub state : view c s ≡ run l freshState
+  pub state : stateOf c s ≡ run l freshState
 
 pub reached : {l : List Call} {c : Context} {s : List ℕ} → History l c s → Reached l c s
 unfolding run
@@ -50,7 +50,7 @@ replays : {l : List Call} {c : Context} {s : List ℕ} {d : DrawCall} {out out1 
     → History l c s → DrawDid d c s r out out1 → Draws (drawReplayed (logs l) d) (drawnOf r) out out1
 replays {l = l} {c = c} {s = s} {d = d} {out = out} {out1 = out1} {r = r} h m =
     let g = reached h in
-    let e : draws (view c s) d ≡ drawReplayed (logs l) d = ap (λ t. draws t d) (g .state) ∙ run-draw l d in
+    let e : draws (stateOf c s) d ≡ drawReplayed (logs l) d = ap (λ t. draws t d) (g .state) ∙ run-draw l d in
     subst (λ (x : Drawing). Draws x (drawnOf r) out out1) e (m .1 .drawn (record { sound = g .sound; store = λ _. g .size }))
 
 -- two answers of one drawing

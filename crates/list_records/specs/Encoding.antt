@@ -15,7 +15,8 @@ use Rattle.arrays.specs.Arrays.{ArrayCall, vertexPointer, colorPointer, normalP
 use Rattle.arrays.specs.Attributes.{AttributeCall, color, multiTexcoord}
 use Rattle.pipeline.specs.Pipeline.{PipelineCall, activeTexture, capability, texEnv, texEnvColor, depthFunc, depthRange, alphaFunc, blendFunc, cullFace, frontFace, fog}
 use Rattle.vertex.specs.Scene.{Source, list, range, elements, DrawCall}
-use Rattle.context.specs.Calls.{BufferCall, gen, bind, delete, bufferData, bufferSubData, buffer, array, Call, matrix, mode, object, attribute, pipeline, takeError, draw}
+use Rattle.context.specs.Calls.{BufferCall, genBuffers, bindBuffer, deleteBuffers, bufferData, bufferSubData, buffer, array, Call, matrix, mode, object}
+use Rattle.context.specs.Calls.{attribute, pipeline, takeError, draw}
 use Rattle.context.specs.Contract.{drawCall}
 
 -- ---- the call of a record. A code that no row has counts as the last of its group: `recordSizes` says which codes there are
@@ -50,9 +51,9 @@ subDataOf bytes w = bufferSubData (wordAt w 0) (wordAt w 1) (bytesAt bytes (long
 
 abbrev pub bufferRows : List ℕ → List ℕ → List (Row BufferCall)
 bufferRows bytes w =
-    0x20 names gen (longAt w 0)
-    ∷ 0x21 names bind (wordAt w 0) (wordAt w 1)
-    ∷ 0x22 names delete w
+    0x20 names genBuffers (longAt w 0)
+    ∷ 0x21 names bindBuffer (wordAt w 0) (wordAt w 1)
+    ∷ 0x22 names deleteBuffers w
     ∷ 0x23 names dataOf bytes w
     ∷ []
 
@@ -69,8 +70,8 @@ arrayRows a b c d =
     ∷ 0x34 names clientState a (switch b)
     ∷ []
 
-unfoldable pub arrayOf : ℕ → ℕ → ℕ → ℕ → ℕ → ArrayCall
-arrayOf code a b c d = rowOr (arrayRows a b c d) code (clientUnit a)
+unfoldable pub arrayCallOf : ℕ → ℕ → ℕ → ℕ → ℕ → ArrayCall
+arrayCallOf code a b c d = rowOr (arrayRows a b c d) code (clientUnit a)
 
 -- a: the first word
 abbrev pub attributeRows : ℕ → List Float → List (Row AttributeCall)
@@ -127,7 +128,7 @@ callOf bytes room code w =
     cond (eqb code 0x10) (mode (wordAt w 0))
     (cond (ltb code 0x20) (matrix (matrixOf code (matrixFloats w)))
     (cond (ltb code 0x30) (object (buffer (bufferOf bytes code w)))
-    (cond (ltb code 0x36) (object (array (arrayOf code (wordAt w 0) (wordAt w 1) (wordAt w 2) (wordAt w 3))))
+    (cond (ltb code 0x36) (object (array (arrayCallOf code (wordAt w 0) (wordAt w 1) (wordAt w 2) (wordAt w 3))))
     (cond (ltb code 0x40) (attribute (attributeOf code (wordAt w 0) (fourFloats w)))
     (cond (ltb code 0x50) (pipeline (pipelineOf code (wordAt w 0) (wordAt w 1) (fourFloats w)))
     (cond (eqb code 0x50) takeError

@@ -10,10 +10,10 @@ use Rattle.buffers.specs.Objects.{genFirst}
 use Rattle.vertex.specs.Scene.{DrawCall}
 use Rattle.context.specs.declared.Context.{Context}
 use Rattle.context.specs.declared.DrawReply.{DrawReply}
-use Rattle.context.specs.Calls.{BufferCall, gen, bind, delete, bufferData, bufferSubData, ObjectCall, buffer, array}
+use Rattle.context.specs.Calls.{BufferCall, genBuffers, bindBuffer, deleteBuffers, bufferData, bufferSubData, ObjectCall, buffer, array}
 use Rattle.context.specs.Calls.{Call, matrix, mode, object, attribute, pipeline, takeError, draw}
 use Rattle.context.specs.Rules.{errorCode}
-use Rattle.context.specs.Contract.{Did, Does, drawReply}
+use Rattle.context.specs.Contract.{Did, drawReply}
 use Rattle.history.specs.Demand3.{DrawDid}
 use Rattle.list_records.specs.declared.CallReply.{CallReply}
 
@@ -30,9 +30,9 @@ isDraw (draw d) = true
 
 -- what a call that is no draw answers besides its number: gen its first name, take_error the code
 abbrev pub bufferValue : BufferCall → Context → ℕ → ℕ
-bufferValue (gen n) c number = genFirst number (c .buffers .next) n
-bufferValue (bind target name) c number = 0
-bufferValue (delete ns) c number = 0
+bufferValue (genBuffers n) c number = genFirst number (c .buffers .next) n
+bufferValue (bindBuffer target name) c number = 0
+bufferValue (deleteBuffers ns) c number = 0
 bufferValue (bufferData target size bytes usage) c number = 0
 bufferValue (bufferSubData target offset bytes) c number = 0
 
@@ -45,11 +45,6 @@ valueOf (attribute k) c number = 0
 valueOf (pipeline k) c number = 0
 valueOf takeError c number = errorCode number (c .error)
 valueOf (draw d) c number = 0
-
--- for the code: a call that borrows neither store nor output, with its value
-pub record Gives (k : Call) (c : Context) (n value : ℕ) (c1 : Context) : Type 0 where
-  pub does : Does k c n c1
-  pub value-is : value ≡ valueOf k c n
 
 -- a draw, with the first f32 of the output
 pub record DrewIn (d : DrawCall) (c : Context) (s : List ℕ) (out : List Float) (r : DrawReply) (out1 : List Float) : Type 0 where

@@ -7,8 +7,9 @@ ghost use Rattle.stack.specs.Stack.{MatrixCall};
 ghost use Rattle.context.specs.Calls.{Call, ObjectCall};
 ghost use Rattle.context.specs.Contract.{Does};
 ghost use Rattle.list_words.specs.Words.{wordAt, fourFloats};
-ghost use Rattle.list_records.specs.Encoding.{updateOf, matrixOf, arrayOf, attributeOf, pipelineOf, isRecord};
-ghost use Rattle.list_records.specs.Perform.{Gives, replyOf};
+ghost use Rattle.list_records.specs.Encoding.{updateOf, matrixOf, arrayCallOf, attributeOf, pipelineOf, isRecord};
+ghost use Rattle.list_records.specs.Perform.{replyOf};
+ghost use Rattle.list_records.specs.PerformCode.{Gives};
 
 // What a call answers: besides its number the first name of gen_buffers, the code of take_error or the count of a draw. `known` is false where the words were no record's.
 pub struct CallReply {
@@ -47,7 +48,7 @@ pub fn make_matrix(c: Context, code: u32, f: [f32; 16]) -> Reply
 }
 
 fn make_array(c: Context, code: u32, a: u32, b: u32, d: u32, e: u32) -> Reply
-    ensures { λ r. ⌜ Does (Call.object (ObjectCall.array (arrayOf code a b d e))) c (r .number) (r .context) ⌝ }
+    ensures { λ r. ⌜ Does (Call.object (ObjectCall.array (arrayCallOf code a b d e))) c (r .number) (r .context) ⌝ }
 {
     match code {
         0x30 => gles_arrays::set_vertex_pointer(c, a, b, d, e),
@@ -90,7 +91,7 @@ fn make_pipeline(c: Context, code: u32, a: u32, b: u32, f: [f32; 4]) -> Reply
 
 pub fn array_record(c: Context, code: u32, w: &[u32]) -> Reply
     ensures { λ r. ⌜ Does
-        (Call.object (ObjectCall.array (arrayOf code (wordAt (now (w .entry)) 0) (wordAt (now (w .entry)) 1) (wordAt (now (w .entry)) 2) (wordAt (now (w .entry)) 3))))
+        (Call.object (ObjectCall.array (arrayCallOf code (wordAt (now (w .entry)) 0) (wordAt (now (w .entry)) 1) (wordAt (now (w .entry)) 2) (wordAt (now (w .entry)) 3))))
         c (r .number) (r .context) ⌝ }
 {
     let a = list_words::word_at(w, 0);

@@ -16,12 +16,14 @@ use Rattle.context.specs.declared.DrawReply.{DrawReply}
 use Rattle.vertex.specs.Scene.{DrawCall}
 use Rattle.stack.specs.Stack.{MatrixUpdate, update, push, pop}
 use Rattle.context.proofs.Parts.{changedIn, changes-part}
-use Rattle.context.specs.Contract.{currentsOf, putCurrents, putStacks, putError, Did, Does}
+use Rattle.context.specs.Contract.{putError, Did, Does}
+use Rattle.context.specs.ContractCode.{currentsOf, putCurrents, putStacks}
 use Rattle.context.specs.Calls.{BufferCall, buffer, array, Call, matrix, mode, object, attribute, pipeline, takeError, draw}
 use Rattle.list_records.specs.declared.CallReply.{CallReply}
 use Rattle.list_words.specs.Words.{wordAt, fourFloats, matrixFloats}
-use Rattle.list_records.specs.Encoding.{updateOf, matrixOf, bufferOf, arrayOf, attributeOf, pipelineOf, sourceOf, drawOfWords, callOf, isRecord, recordCall}
-use Rattle.list_records.specs.Perform.{isDraw, valueOf, Gives, DrewIn, replyOf, called, drew, Performs, was-made, was-unknown}
+use Rattle.list_records.specs.Encoding.{updateOf, matrixOf, bufferOf, arrayCallOf, attributeOf, pipelineOf, sourceOf, drawOfWords, callOf, isRecord, recordCall}
+use Rattle.list_records.specs.Perform.{isDraw, valueOf, DrewIn, replyOf, called, drew, Performs, was-made, was-unknown}
+use Rattle.list_records.specs.PerformCode.{Gives}
 use Rattle.list_buffers.proofs.Answers.{Answers}
 use Rattle.list_runner.specs.Run.{Changes}
 
@@ -63,7 +65,7 @@ module _ (bytes : List ℕ) (room code : ℕ) (w : List ℕ) where
     not-buffer : ltb code 0x30 ≡ false
     not-buffer = le-ltb code 0x30 l
 
-    pub is-array : code < 0x36 → object (array (arrayOf code (wordAt w 0) (wordAt w 1) (wordAt w 2) (wordAt w 3))) ≡ callOf bytes room code w
+    pub is-array : code < 0x36 → object (array (arrayCallOf code (wordAt w 0) (wordAt w 1) (wordAt w 2) (wordAt w 3))) ≡ callOf bytes room code w
     unfolding callOf
     is-array h = rw (not-mode, not-matrix, not-buffer, lt-ltb code 0x36 h)
 

@@ -20,18 +20,19 @@ use Rattle.arrays.specs.Arrays.{ArrayCall, vertexPointer, colorPointer, normalP
 use Rattle.arrays.specs.Attributes.{AttributeCall, color, multiTexcoord}
 use Rattle.pipeline.specs.Pipeline.{PipelineCall, activeTexture, capability, texEnv, texEnvColor, depthFunc, depthRange, alphaFunc, blendFunc, cullFace, frontFace, fog}
 use Rattle.vertex.specs.Scene.{Source, list, range, elements}
-use Rattle.context.specs.Calls.{BufferCall, gen, bind, delete, bufferData, bufferSubData, buffer, array, Call, matrix, mode, object, attribute, pipeline, takeError, draw}
+use Rattle.context.specs.Calls.{BufferCall, genBuffers, bindBuffer, deleteBuffers, bufferData, bufferSubData, buffer, array, Call, matrix, mode, object}
+use Rattle.context.specs.Calls.{attribute, pipeline, takeError, draw}
 use Rattle.context.specs.Contract.{drawCall}
 use Rattle.list_words.specs.Words.{long, switch, floatAt, bytesAt}
-use Rattle.list_records.specs.Encoding.{updateOf, matrixOf, bufferOf, arrayOf, attributeOf, pipelineOf, sourceOf, callOf, recordSizes, isSize, isRecord}
+use Rattle.list_records.specs.Encoding.{updateOf, matrixOf, bufferOf, arrayCallOf, attributeOf, pipelineOf, sourceOf, callOf, recordSizes, isSize, isRecord}
 use Rattle.buffers.specs.Objects.{storeBytes}
 use Rattle.history.specs.Demand3.{History}
 use Rattle.list_runner.specs.declared.RunReply.{RunReply}
 use Rattle.list_runner.specs.Run.{outputFrom, Runs}
 use Rattle.list_runner.specs.Lists.{recordLength, firstCall, onward, decodeTo, decode}
-use Rattle.list_runner.specs.Encode.{Argument, Encoded, u32, u64, bool, f32, f32s, u32s, u8s, argumentWords, argumentBytes, longWords, wordsOf, borrowedBy}
+use Rattle.list_runner.specs.Encode.{Argument, Encoded, u32, u64, bool, f32, f32s, u32s, u8s, argumentWords, argumentBytes, longWords, wordsOfArguments, borrowedBy}
 use Rattle.list_runner.specs.Encode.{matrixRecord, bufferRecord, arrayRecord, attributeRecord, pipelineRecord, drawRecord, recordOf}
-use Rattle.list_runner.specs.Encode.{callWords, borrowed, encodeFrom, encode, bytesOf, All, IsWord, IsByte, IsFloat, InType, Encodable}
+use Rattle.list_runner.specs.Encode.{recordWords, borrowedBytes, encodeFrom, encode, encodedBytes, All, IsWord, IsByte, IsFloat, InType, Encodable}
 
 -- ---- arguments read back
 
@@ -83,14 +84,14 @@ list-record w h = eq-eqb (length w) (max 9 (length w)) (omega arith)
 
 module _ (area : List ℕ) (room place : ℕ) where
   abbrev ReadAs : Encoded → Call → Type 0
-  ReadAs e k = (isRecord (e .code) (length (wordsOf place (e .arguments))) ≡ true) × (callOf area room (e .code) (wordsOf place (e .arguments)) ≡ k)
+  ReadAs e k = (isRecord (e .code) (length (wordsOfArguments place (e .arguments))) ≡ true) × (callOf area room (e .code) (wordsOfArguments place (e .arguments)) ≡ k)
 
   -- the bytes of the arguments lie at the place
   abbrev Lies : List Argument → Type 0
   Lies l = bytesAt area place (length (borrowedBy l)) ≡ borrowedBy l
 
   matrix-read : (k : MatrixCall) → All InType (matrixRecord k .arguments) → ReadAs (matrixRecord k) (matrix k)
-  unfolding matrixRecord wordsOf isRecord callOf updateOf matrixOf
+  unfolding matrixRecord wordsOfArguments isRecord callOf updateOf matrixOf
   matrix-read (update loadIdentity) h = (refl, refl)
   matrix-read (update (load m)) (a, u) = (ap (isRecord 0x12) (array-length 16 m a), λ i. matrix (update (load (array-is 16 m a i))))
   matrix-read (update (mult m)) (a, u) = (ap (isRecord 0x13) (array-length 16 m a), λ i. matrix (update (mult (array-is 16 m a i))))
@@ -106,15 +107,15 @@ module _ (area : List ℕ) (room place : ℕ) where
       (refl, λ i. matrix (update (ortho (float-is l hl i) (float-is r hr i) (float-is b hb i) (float-is t ht i) (float-is n hn i) (float-is f hf i))))
 
   buffer-read : (k : BufferCall) → Lies (bufferRecord k .arguments) → ReadAs (bufferRecord k) (object (buffer k))
-  unfolding bufferRecord wordsOf borrowedBy isRecord callOf bufferOf
-  buffer-read (gen n) p = (refl, λ i. object (buffer (gen (long-is n i))))
-  buffer-read (bind target name) p = (refl, refl)
-  buffer-read (delete l) p = (eq-eqb (length (l ++ [])) (length (l ++ [])) refl, λ i. object (buffer (delete (append-nil l i))))
+  unfolding bufferRecord wordsOfArguments borrowedBy isRecord callOf bufferOf
+  buffer-read (genBuffers n) p = (refl, λ i. object (buffer (genBuffers (long-is n i))))
+  buffer-read (bindBuffer target name) p = (refl, refl)
+  buffer-read (deleteBuffers l) p = (eq-eqb (length (l ++ [])) (length (l ++ [])) refl, λ i. object (buffer (deleteBuffers (append-nil l i))))
   buffer-read (bufferData target size b usage) p = (refl, λ i. object (buffer (bufferData target (long-is size i) (part-is area place b p i) usage)))
   buffer-read (bufferSubData target offset b) p = (refl, λ i. object (buffer (bufferSubData target offset (part-is area place b p i))))
 
   array-read : (k : ArrayCall) → ReadAs (arrayRecord k) (object (array k))
-  unfolding arrayRecord wordsOf isRecord callOf arrayOf
+  unfolding arrayRecord wordsOfArguments isRecord callOf arrayCallOf
   array-read (vertexPointer size ty stride pointer) = (refl, refl)
   array-read (colorPointer size ty stride pointer) = (refl, refl)
   array-read (normalPointer ty stride pointer) = (refl, refl)
@@ -123,12 +124,12 @@ module _ (area : List ℕ) (room place : ℕ) where
   array-read (clientUnit unit) = (refl, refl)
 
   attribute-read : (k : AttributeCall) → All InType (attributeRecord k .arguments) → ReadAs (attributeRecord k) (attribute k)
-  unfolding attributeRecord wordsOf isRecord callOf attributeOf
+  unfolding attributeRecord wordsOfArguments isRecord callOf attributeOf
   attribute-read (color value) (a, u) = (ap (isRecord 0x36) (array-length 4 value a), λ i. attribute (color (array-is 4 value a i)))
   attribute-read (multiTexcoord unit s t) (hu, (hs, (ht, u))) = (refl, λ i. attribute (multiTexcoord unit (float-is s hs i) (float-is t ht i)))
 
   pipeline-read : (k : PipelineCall) → All InType (pipelineRecord k .arguments) → ReadAs (pipelineRecord k) (pipeline k)
-  unfolding pipelineRecord wordsOf isRecord callOf pipelineOf
+  unfolding pipelineRecord wordsOfArguments isRecord callOf pipelineOf
   pipeline-read (activeTexture unit) h = (refl, refl)
   pipeline-read (capability cap on) h = (refl, λ i. pipeline (capability cap (switch-is on i)))
   pipeline-read (texEnv pname value) h = (refl, refl)
@@ -147,15 +148,15 @@ module _ (area : List ℕ) (room place : ℕ) where
     room-is = rw (long-is n) (omega arith)
 
     draw-read : (s : Source) → Lies (drawRecord (drawCall s m st b g n) .arguments) → ReadAs (drawRecord (drawCall s m st b g n)) (draw (drawCall s m st b g n))
-    unfolding drawRecord wordsOf borrowedBy isRecord callOf sourceOf
+    unfolding drawRecord wordsOfArguments borrowedBy isRecord callOf sourceOf
     draw-read (list indices) p =
-        let w = wordsOf place (drawRecord (drawCall (list indices) m st b g n) .arguments) in
+        let w = wordsOfArguments place (drawRecord (drawCall (list indices) m st b g n) .arguments) in
         (list-record w (omega arith), λ i. draw (drawCall (list (append-nil indices i)) m st b (part-is area place g p i) (room-is i)))
     draw-read (range first count) p = (refl, λ i. draw (drawCall (range first count) m st b (part-is area place g p i) (room-is i)))
     draw-read (elements count ty pointer) p = (refl, λ i. draw (drawCall (elements count ty pointer) m st b (part-is area place g p i) (room-is i)))
 
   call-read : (k : Call) → Encodable room k → Lies (recordOf k .arguments) → ReadAs (recordOf k) k
-  unfolding wordsOf isRecord callOf
+  unfolding wordsOfArguments isRecord callOf
   call-read (mode code) h p = (refl, refl)
   call-read (matrix k) h p = matrix-read k (h .typed)
   call-read (object (buffer k)) h p = buffer-read k p
@@ -184,31 +185,31 @@ module _ (code : ℕ) (w rest : List ℕ) where
 
 module _ (room : ℕ) where
   -- the calls' bytes lie after others, and n calls are as many as there are or more
-  decodes-from : (n : ℕ) (before : List ℕ) (l : List Call) → All (Encodable room) l → length l ≤ n → decodeTo n (before ++ bytesOf l) room (encodeFrom (length before) l) ≡ l
-  unfolding decodeTo encodeFrom bytesOf firstCall
+  decodes-from : (n : ℕ) (before : List ℕ) (l : List Call) → All (Encodable room) l → length l ≤ n → decodeTo n (before ++ encodedBytes l) room (encodeFrom (length before) l) ≡ l
+  unfolding decodeTo encodeFrom encodedBytes firstCall
   decodes-from zero before [] h q = refl
   decodes-from (suc n) before [] h q = refl
   decodes-from zero before (k ∷ l) h q = absurd (omega arith)
   decodes-from (suc n) before (k ∷ l) (hk, hl) q =
-      let b = borrowed k in
-      let area = before ++ (b ++ bytesOf l) in
-      let w = callWords (length before) k in
+      let b = borrowedBytes k in
+      let area = before ++ (b ++ encodedBytes l) in
+      let w = recordWords (length before) k in
       let rest = encodeFrom (length before + length b) l in
-      let r = call-read area room (length before) k hk (ap (take (length b)) (drop-append-seam before (b ++ bytesOf l)) ∙ take-append-seam b (bytesOf l)) in
+      let r = call-read area room (length before) k hk (ap (take (length b)) (drop-append-seam before (b ++ encodedBytes l)) ∙ take-append-seam b (encodedBytes l)) in
       let code = recordOf k .code in
       let all = joined code w rest in
       ap (λ o. onward o (λ j. j ∷ decodeTo n area room (drop (recordLength all) all)) []) (joined-call code w rest area room (r .0) (r .1))
       ∙ ap (λ (t : List ℕ). k ∷ decodeTo n area room t) (joined-rest code w rest)
-      ∙ (λ i. k ∷ decodeTo n (sym (append-assoc before b (bytesOf l)) i) room (encodeFrom (sym (length-append before b) i) l))
+      ∙ (λ i. k ∷ decodeTo n (sym (append-assoc before b (encodedBytes l)) i) room (encodeFrom (sym (length-append before b) i) l))
       ∙ ap (λ (t : List Call). k ∷ t) (decodes-from n (before ++ b) l hl (omega arith))
 
   -- a list has no more calls than words
   calls-words : (place : ℕ) (l : List Call) → length l ≤ length (encodeFrom place l)
   unfolding encodeFrom
   calls-words place [] = omega arith
-  calls-words place (k ∷ l) = omega (arith, calls-words (place + length (borrowed k)) l, length-append (callWords place k) (encodeFrom (place + length (borrowed k)) l))
+  calls-words place (k ∷ l) = omega (arith, calls-words (place + length (borrowedBytes k)) l, length-append (recordWords place k) (encodeFrom (place + length (borrowedBytes k)) l))
 
-  pub decodes : (l : List Call) → All (Encodable room) l → decode (bytesOf l) room (encode l) ≡ l
+  pub decodes : (l : List Call) → All (Encodable room) l → decode (encodedBytes l) room (encode l) ≡ l
   decodes l h = decodes-from (length (encode l)) [] l h (calls-words 0 l)
 
 -- ---- the encoding is words and bytes
@@ -235,10 +236,10 @@ module _ (place : ℕ) where
   argument-words (u32s l) p h = h
   argument-words (u8s l) p h = all-append IsWord (longWords place) (longWords (length l)) (long-words place p) (long-words (length l) (h .0))
 
-  words-of : (l : List Argument) → place < 2 ^ 64 → All InType l → All IsWord (wordsOf place l)
-  unfolding wordsOf
+  words-of : (l : List Argument) → place < 2 ^ 64 → All InType l → All IsWord (wordsOfArguments place l)
+  unfolding wordsOfArguments
   words-of [] p h = tt
-  words-of (a ∷ l) p h = all-append IsWord (argumentWords place a) (wordsOf place l) (argument-words a p (h .0)) (words-of l p (h .1))
+  words-of (a ∷ l) p h = all-append IsWord (argumentWords place a) (wordsOfArguments place l) (argument-words a p (h .0)) (words-of l p (h .1))
 
   -- a record has as many words at any place
   argument-length : (a : Argument) → length (argumentWords place a) ≡ length (argumentWords 0 a)
@@ -250,11 +251,12 @@ module _ (place : ℕ) where
   argument-length (u32s l) = refl
   argument-length (u8s l) = refl
 
-  words-length : (l : List Argument) → length (wordsOf place l) ≡ length (wordsOf 0 l)
-  unfolding wordsOf
+  words-length : (l : List Argument) → length (wordsOfArguments place l) ≡ length (wordsOfArguments 0 l)
+  unfolding wordsOfArguments
   words-length [] = refl
   words-length (a ∷ l) =
-      length-append (argumentWords place a) (wordsOf place l) ∙ (λ i. argument-length a i + words-length l i) ∙ sym (length-append (argumentWords 0 a) (wordsOf 0 l))
+      length-append (argumentWords place a) (wordsOfArguments place l) ∙ (λ i. argument-length a i + words-length l i)
+      ∙ sym (length-append (argumentWords 0 a) (wordsOfArguments 0 l))
 
 argument-bytes : (a : Argument) → InType a → All IsByte (argumentBytes a)
 argument-bytes (u32 n) h = tt
@@ -288,33 +290,33 @@ unfolding isRecord
 record-code code n e = code-below (2 ^ 32) (recordSizes n) code n tt e
 
 module _ (room : ℕ) where
-  encoded-from : (place : ℕ) (l : List Call) → All (Encodable room) l → place + length (bytesOf l) < 2 ^ 64 → All IsWord (encodeFrom place l)
-  unfolding encodeFrom bytesOf
+  encoded-from : (place : ℕ) (l : List Call) → All (Encodable room) l → place + length (encodedBytes l) < 2 ^ 64 → All IsWord (encodeFrom place l)
+  unfolding encodeFrom encodedBytes
   encoded-from place [] h p = tt
   encoded-from place (k ∷ l) (hk, hl) p =
-      let b = borrowed k in
-      let q : place + length b + length (bytesOf l) < 2 ^ 64 = omega (arith, length-append b (bytesOf l)) in (
-        record-code (recordOf k .code) (length (callWords 0 k)) (call-read b room 0 k hk (take-length b) .0),
+      let b = borrowedBytes k in
+      let q : place + length b + length (encodedBytes l) < 2 ^ 64 = omega (arith, length-append b (encodedBytes l)) in (
+        record-code (recordOf k .code) (length (recordWords 0 k)) (call-read b room 0 k hk (take-length b) .0),
         (
           subst IsWord (sym (words-length place (recordOf k .arguments))) (hk .short),
-          all-append IsWord (callWords place k) (encodeFrom (place + length b) l)
+          all-append IsWord (recordWords place k) (encodeFrom (place + length b) l)
               (words-of place (recordOf k .arguments) (omega arith) (hk .typed)) (encoded-from (place + length b) l hl q),
         ),
       )
 
   -- a place is a u64
-  pub encoded-words : (l : List Call) → All (Encodable room) l → length (bytesOf l) < 2 ^ 64 → All IsWord (encode l)
+  pub encoded-words : (l : List Call) → All (Encodable room) l → length (encodedBytes l) < 2 ^ 64 → All IsWord (encode l)
   encoded-words l h p = encoded-from 0 l h (omega arith)
 
-  pub encoded-bytes : (l : List Call) → All (Encodable room) l → All IsByte (bytesOf l)
-  unfolding bytesOf
+  pub encoded-bytes : (l : List Call) → All (Encodable room) l → All IsByte (encodedBytes l)
+  unfolding encodedBytes
   encoded-bytes [] h = tt
-  encoded-bytes (k ∷ l) h = all-append IsByte (borrowed k) (bytesOf l) (borrowed-bytes (recordOf k .arguments) (h .0 .typed)) (encoded-bytes l (h .1))
+  encoded-bytes (k ∷ l) h = all-append IsByte (borrowedBytes k) (encodedBytes l) (borrowed-bytes (recordOf k .arguments) (h .0 .typed)) (encoded-bytes l (h .1))
 
 -- ---- what `run` leaves of an encoded list is what the list leaves
 
 pub run-encoded : {l : List Call} {s s1 : List ℕ} {out out1 : List Float} {r : RunReply}
-    → All (Encodable (length out)) l → length s ≡ storeBytes → Runs (encode l) (bytesOf l) s out r s1 out1
+    → All (Encodable (length out)) l → length s ≡ storeBytes → Runs (encode l) (encodedBytes l) s out r s1 out1
     → History l (r .context) s1 × (out1 ≡ outputFrom [] l out)
 run-encoded {l = l} {s1 = s1} {out = out} {r = r} h e p =
     let d = decodes (length out) l h in
@@ -332,7 +334,7 @@ example =
     ∷ []
 
 example-encodable : All (Encodable 51) example
-unfolding example fits matrixRecord bufferRecord drawRecord wordsOf
+unfolding example fits matrixRecord bufferRecord drawRecord wordsOfArguments
 example-encodable = (
   record { typed = search arith; short = omega arith; lent = omega arith },
   (
@@ -344,8 +346,8 @@ example-encodable = (
   ),
 )
 
-example-bytes : bytesOf example ≡ 1 ∷ 2 ∷ 255 ∷ 7 ∷ 8 ∷ []
-unfolding example bytesOf borrowedBy matrixRecord bufferRecord drawRecord
+example-bytes : encodedBytes example ≡ 1 ∷ 2 ∷ 255 ∷ 7 ∷ 8 ∷ []
+unfolding example encodedBytes borrowedBy matrixRecord bufferRecord drawRecord
 example-bytes = refl
 
 example-words : encode example
@@ -353,5 +355,5 @@ example-words : encode example
     ∷ 0x16 ∷ 3 ∷ 0x3f800000 ∷ 0x3f000000 ∷ 0x7fc00000
     ∷ 0x23 ∷ 8 ∷ 0x8892 ∷ 3 ∷ 0 ∷ 0x88e4 ∷ 0 ∷ 0 ∷ 3 ∷ 0
     ∷ 0x60 ∷ 12 ∷ 4 ∷ 0 ∷ 51 ∷ 0 ∷ 0x1000 ∷ 3 ∷ 0 ∷ 2 ∷ 0 ∷ 2 ∷ 1 ∷ 0 ∷ []
-unfolding example encodeFrom wordsOf borrowedBy matrixRecord bufferRecord drawRecord toBits
+unfolding example encodeFrom wordsOfArguments borrowedBy matrixRecord bufferRecord drawRecord toBits
 example-words = refl

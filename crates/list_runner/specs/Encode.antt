@@ -11,7 +11,8 @@ use Rattle.arrays.specs.Arrays.{ArrayCall, vertexPointer, colorPointer, normalP
 use Rattle.arrays.specs.Attributes.{AttributeCall, color, multiTexcoord}
 use Rattle.pipeline.specs.Pipeline.{PipelineCall, activeTexture, capability, texEnv, texEnvColor, depthFunc, depthRange, alphaFunc, blendFunc, cullFace, frontFace, fog}
 use Rattle.vertex.specs.Scene.{Source, list, range, elements, DrawCall}
-use Rattle.context.specs.Calls.{BufferCall, gen, bind, delete, bufferData, bufferSubData, buffer, array, Call, matrix, mode, object, attribute, pipeline, takeError, draw}
+use Rattle.context.specs.Calls.{BufferCall, genBuffers, bindBuffer, deleteBuffers, bufferData, bufferSubData, buffer, array, Call, matrix, mode, object}
+use Rattle.context.specs.Calls.{attribute, pipeline, takeError, draw}
 
 -- ---- arguments
 
@@ -48,9 +49,9 @@ argumentBytes (u32s l) = []
 argumentBytes (u8s l) = l
 
 -- one place is enough: no call borrows bytes twice
-unfoldable pub wordsOf : ℕ → List Argument → List ℕ
-wordsOf place [] = []
-wordsOf place (a ∷ l) = argumentWords place a ++ wordsOf place l
+unfoldable pub wordsOfArguments : ℕ → List Argument → List ℕ
+wordsOfArguments place [] = []
+wordsOfArguments place (a ∷ l) = argumentWords place a ++ wordsOfArguments place l
 
 unfoldable pub borrowedBy : List Argument → List ℕ
 borrowedBy [] = []
@@ -79,9 +80,9 @@ matrixRecord (update (frustum l r b t n f)) = 0x1a with f32 l ∷ f32 r ∷ f32 
 matrixRecord (update (ortho l r b t n f)) = 0x1b with f32 l ∷ f32 r ∷ f32 b ∷ f32 t ∷ f32 n ∷ f32 f ∷ []
 
 unfoldable pub bufferRecord : BufferCall → Encoded
-bufferRecord (gen n) = 0x20 with u64 n ∷ []
-bufferRecord (bind target name) = 0x21 with u32 target ∷ u32 name ∷ []
-bufferRecord (delete names) = 0x22 with u32s names ∷ []
+bufferRecord (genBuffers n) = 0x20 with u64 n ∷ []
+bufferRecord (bindBuffer target name) = 0x21 with u32 target ∷ u32 name ∷ []
+bufferRecord (deleteBuffers names) = 0x22 with u32s names ∷ []
 bufferRecord (bufferData target size bytes usage) = 0x23 with u32 target ∷ u64 size ∷ u32 usage ∷ u8s bytes ∷ []
 bufferRecord (bufferSubData target offset bytes) = 0x24 with u32 target ∷ u32 offset ∷ u8s bytes ∷ []
 
@@ -130,26 +131,26 @@ recordOf takeError = 0x50 with []
 recordOf (draw d) = drawRecord d
 
 -- the words of a call's record, where its bytes lie at a place
-abbrev pub callWords : ℕ → Call → List ℕ
-callWords place k = wordsOf place (recordOf k .arguments)
+abbrev pub recordWords : ℕ → Call → List ℕ
+recordWords place k = wordsOfArguments place (recordOf k .arguments)
 
-abbrev pub borrowed : Call → List ℕ
-borrowed k = borrowedBy (recordOf k .arguments)
+abbrev pub borrowedBytes : Call → List ℕ
+borrowedBytes k = borrowedBy (recordOf k .arguments)
 
 -- ---- lists
 
 -- the words of a list of calls, where the bytes that they borrow lie one after the other from a place on
 unfoldable pub encodeFrom : ℕ → List Call → List ℕ
 encodeFrom place [] = []
-encodeFrom place (k ∷ l) = recordOf k .code ∷ length (callWords place k) ∷ callWords place k ++ encodeFrom (place + length (borrowed k)) l
+encodeFrom place (k ∷ l) = recordOf k .code ∷ length (recordWords place k) ∷ recordWords place k ++ encodeFrom (place + length (borrowedBytes k)) l
 
 abbrev pub encode : List Call → List ℕ
 encode l = encodeFrom 0 l
 
 -- these bytes
-unfoldable pub bytesOf : List Call → List ℕ
-bytesOf [] = []
-bytesOf (k ∷ l) = borrowed k ++ bytesOf l
+unfoldable pub encodedBytes : List Call → List ℕ
+encodedBytes [] = []
+encodedBytes (k ∷ l) = borrowedBytes k ++ encodedBytes l
 
 -- ---- bounds
 
@@ -187,8 +188,8 @@ outputLength takeError = 0
 outputLength (draw d) = d .room
 
 -- The calls that have a record where an output of `room` f32 is lent. The arguments are within their types, as in every call of a program. Two bounds are the encoding's own:
--- one word says how many words a record has (as many at every place; only `delete` and a draw of a list can have too many), and no draw has more output than is lent.
+-- one word says how many words a record has (as many at every place; only `deleteBuffers` and a draw of a list can have too many), and no draw has more output than is lent.
 pub record Encodable (room : ℕ) (k : Call) : Type 0 where
   pub typed : All InType (recordOf k .arguments)
-  pub short : IsWord (length (callWords 0 k))
+  pub short : IsWord (length (recordWords 0 k))
   pub lent : outputLength k ≤ room

@@ -3,7 +3,7 @@ use mathlib.Core.Path.{_≡_, refl}
 use mathlib.Core.List.{List, [], _∷_}
 use lib.IntN.{negsuc}
 use lib.Ieee.{binary32, ofBits, toUnsigned}
-use Rattle.number.specs.Numbers.{magnitude, wholePart, le, signedOf}
+use Rattle.number.specs.Numbers.{magnitude, wholePart, littleEndian, signedOf}
 
 -- fog mode 2048.9 counts as 0x0800
 pub fog-whole-part : wholePart (ofBits binary32 0x4500_0e66) ≡ 0x0800
@@ -16,5 +16,5 @@ unfolding ofBits magnitude
 magnitude-of-minus-zero = refl
 
 -- bytes in the order of an array: the lowest first
-pub little-endian : (le (0x34 ∷ 0x12 ∷ []) ≡ 0x1234) × (signedOf 16 0xfffe ≡ negsuc 1)
+pub little-endian : (littleEndian (0x34 ∷ 0x12 ∷ []) ≡ 0x1234) × (signedOf 16 0xfffe ≡ negsuc 1)
 little-endian = (refl, refl)

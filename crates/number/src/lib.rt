@@ -5,17 +5,17 @@ ghost use Prim.Native.Nat.{_<_, min};
 ghost use lib.IntN.{pos};
 ghost use lib.Ieee.{binary32, ofBits, toBits};
 ghost use Rattle.number.specs.F32.{nearest};
-ghost use Rattle.number.specs.Numbers.{le, signedOf, fixed, clamped, clampedUnit, unorm, snorm, magnitude, wholePart};
+ghost use Rattle.number.specs.Numbers.{littleEndian, signedOf, fixed, clamped, clampedUnit, unorm, snorm, magnitude, wholePart};
 
 // The numbers of two and of four little-endian bytes.
 pub fn le16(a: u8, b: u8) -> u16
-    ensures { λ r. ⌜ r ≡ le (a ∷ b ∷ []) ⌝ }
+    ensures { λ r. ⌜ r ≡ littleEndian (a ∷ b ∷ []) ⌝ }
 {
     (a as u16) + 256 * (b as u16)
 }
 
 pub fn le32(a: u8, b: u8, c: u8, d: u8) -> u32
-    ensures { λ r. ⌜ r ≡ le (a ∷ b ∷ c ∷ d ∷ []) ⌝ }
+    ensures { λ r. ⌜ r ≡ littleEndian (a ∷ b ∷ c ∷ d ∷ []) ⌝ }
 {
     (a as u32) + 256 * ((b as u32) + 256 * ((c as u32) + 256 * (d as u32)))
 }

@@ -15,18 +15,18 @@ use Rattle.pipeline.specs.declared.FogParameter.{FogParameter}
 use Rattle.number.specs.Tables.{lookup}
 use Rattle.pipeline.specs.Enums.{compareFuncs, blendFactors, cullModes, frontFaces, fogModes, texEnvModes, fogParameterOf, inIgnoredRange, capabilityOf}
 use Rattle.pipeline.specs.Pipeline.{freshPipeline, PipelineCall, activeTexture, capability, texEnv, texEnvColor, depthFunc, depthRange, alphaFunc, blendFunc}
-use Rattle.pipeline.specs.Pipeline.{cullFace, frontFace, fog, withActive, putUnit, switched, fogSet, accepted, done, answered, pipelineStep}
+use Rattle.pipeline.specs.Pipeline.{cullFace, frontFace, fog, withActive, putUnit, switched, fogSet, acceptedPipeline, pipelineDone, pipelineAnswered, pipelineStep}
 use Rattle.number.specs.Numbers.{wholePart}
 
 -- ---- a call is done, or refused with nothing changed
 
-answered-keeps : (o : Option Pipeline) (p : Pipeline) → (answered o p .number ≡ 0) ⊎ ((answered o p .number ≡ 0x0500) × (answered o p .pipeline ≡ p))
+answered-keeps : (o : Option Pipeline) (p : Pipeline) → (pipelineAnswered o p .number ≡ 0) ⊎ ((pipelineAnswered o p .number ≡ 0x0500) × (pipelineAnswered o p .pipeline ≡ p))
 answered-keeps (some q) p = inl refl
 answered-keeps none p = inr (refl, refl)
 
 pub refusal-keeps : (call : PipelineCall) (p : Pipeline) → (pipelineStep call p .number ≡ 0) ⊎ ((pipelineStep call p .number ≡ 0x0500) × (pipelineStep call p .pipeline ≡ p))
 unfolding pipelineStep
-refusal-keeps call p = answered-keeps (accepted call p) p
+refusal-keeps call p = answered-keeps (acceptedPipeline call p) p
 
 -- ---- the active unit stays below 4
 
@@ -35,7 +35,7 @@ fresh-active = refl
 
 module _ (p : Pipeline) (low : p .«active_texture» < 4) where
   abbrev Stays : Option Pipeline → Type 0
-  Stays o = answered o p .pipeline .«active_texture» < 4
+  Stays o = pipelineAnswered o p .pipeline .«active_texture» < 4
 
   by-choice : {A : Type 0} (f : A → Pipeline) → ((a : A) → f a .«active_texture» < 4) → (o : Option A) → Stays (Option·map f o)
   by-choice f h none = low
@@ -74,8 +74,8 @@ module _ (p : Pipeline) (low : p .«active_texture» < 4) where
   by-fog FogParameter.End v = low
   by-fog FogParameter.Unknown v = low
 
-  stays : (call : PipelineCall) → Stays (accepted call p)
-  unfolding accepted
+  stays : (call : PipelineCall) → Stays (acceptedPipeline call p)
+  unfolding acceptedPipeline
   stays (activeTexture unit) = selected unit (ltb unit 4) refl
   stays (capability cap on) = by-switch (capabilityOf cap) on
   stays (texEnv pname value) = by-test (eqb pname 0x2200) _ (by-two _ (λ m. put _) (lookup texEnvModes value))
@@ -97,11 +97,11 @@ active-stays call p low = stays p low call
 pub in-range : (cap : ℕ) → 0x4000 ≤ cap → cap ≤ 0x400F → inIgnoredRange cap ≡ true
 in-range cap l h = rw (le-leb 0x4000 cap l, le-leb cap 0x400F h)
 
-pub range-ignored : (cap : ℕ) (on : Bool) (p : Pipeline) → 0x4000 ≤ cap → cap ≤ 0x400F → pipelineStep (capability cap on) p ≡ done p
-unfolding pipelineStep accepted
+pub range-ignored : (cap : ℕ) (on : Bool) (p : Pipeline) → 0x4000 ≤ cap → cap ≤ 0x400F → pipelineStep (capability cap on) p ≡ pipelineDone p
+unfolding pipelineStep acceptedPipeline
 range-ignored cap on p l h = rw (in-range cap l h)
 
 -- 2048.9 is 0x0800
 pub fog-2048·9 : (p : Pipeline) → pipelineStep (fog 0x0B65 (ofBits binary32 0x4500_0e66)) p .pipeline .fog .mode ≡ FogMode.Exp
-unfolding pipelineStep accepted ofBits toUnsigned
+unfolding pipelineStep acceptedPipeline ofBits toUnsigned
 fog-2048·9 p = refl

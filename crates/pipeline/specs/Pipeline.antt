@@ -125,41 +125,41 @@ fogSet FogParameter.End v p = some (withFog (record { enabled = p .fog .enabled;
 fogSet FogParameter.Unknown v p = none
 
 -- the settings after a call, or none where it is refused: an unknown enumerant, or a unit from 4 on
-unfoldable pub accepted : PipelineCall → Pipeline → Option Pipeline
-accepted (activeTexture unit) p = cond (ltb unit 4) (some (withActive unit p)) none
-accepted (capability cap on) p = switched (capabilityOf cap) on p
+unfoldable pub acceptedPipeline : PipelineCall → Pipeline → Option Pipeline
+acceptedPipeline (activeTexture unit) p = cond (ltb unit 4) (some (withActive unit p)) none
+acceptedPipeline (capability cap on) p = switched (capabilityOf cap) on p
 -- another pname than TEXTURE_ENV_MODE does nothing
-accepted (texEnv pname value) p =
+acceptedPipeline (texEnv pname value) p =
     cond (eqb pname 0x2200)
     (bind (lookup texEnvModes value) (λ m. putUnit (record { enabled = activeUnit p .enabled; «env_mode» = m; «env_color» = activeUnit p .«env_color» }) p))
     (some p)
-accepted (texEnvColor color) p = putUnit (record { enabled = activeUnit p .enabled; «env_mode» = activeUnit p .«env_mode»; «env_color» = color }) p
-accepted (depthFunc func) p =
+acceptedPipeline (texEnvColor color) p = putUnit (record { enabled = activeUnit p .enabled; «env_mode» = activeUnit p .«env_mode»; «env_color» = color }) p
+acceptedPipeline (depthFunc func) p =
     Option·map (λ f. withDepth (record { test = p .depth .test; func = f; near = p .depth .near; far = p .depth .far }) p) (lookup compareFuncs func)
-accepted (depthRange near far) p = some (withDepth (record { test = p .depth .test; func = p .depth .func; near = clampedUnit near; far = clampedUnit far }) p)
+acceptedPipeline (depthRange near far) p = some (withDepth (record { test = p .depth .test; func = p .depth .func; near = clampedUnit near; far = clampedUnit far }) p)
 -- the reference is clamped to 0 to 1; NaN stays
-accepted (alphaFunc func reference) p =
+acceptedPipeline (alphaFunc func reference) p =
     Option·map (λ f. withAlpha (record { test = p .alpha .test; func = f; reference = clampedUnit reference }) p) (lookup compareFuncs func)
-accepted (blendFunc src dst) p =
+acceptedPipeline (blendFunc src dst) p =
     bind (lookup blendFactors src)
     (λ s. Option·map (λ d. withBlend (record { enabled = p .blend .enabled; src = s; dst = d }) p) (lookup blendFactors dst))
-accepted (cullFace mode) p = Option·map (λ m. withCull (record { enabled = p .cull .enabled; mode = m }) p) (lookup cullModes mode)
-accepted (frontFace mode) p = Option·map (λ f. withFace f p) (lookup frontFaces mode)
-accepted (fog pname value) p = fogSet (fogParameterOf pname) value p
+acceptedPipeline (cullFace mode) p = Option·map (λ m. withCull (record { enabled = p .cull .enabled; mode = m }) p) (lookup cullModes mode)
+acceptedPipeline (frontFace mode) p = Option·map (λ f. withFace f p) (lookup frontFaces mode)
+acceptedPipeline (fog pname value) p = fogSet (fogParameterOf pname) value p
 
 -- ---- the answers
 
-abbrev pub done : Pipeline → PipelineAnswer
-done p = record { number = 0; pipeline = p }
+abbrev pub pipelineDone : Pipeline → PipelineAnswer
+pipelineDone p = record { number = 0; pipeline = p }
 
 -- a refusal changes nothing
-abbrev pub refused : Pipeline → PipelineAnswer
-refused p = record { number = 0x0500; pipeline = p }
+abbrev pub pipelineRefused : Pipeline → PipelineAnswer
+pipelineRefused p = record { number = 0x0500; pipeline = p }
 
-abbrev pub answered : Option Pipeline → Pipeline → PipelineAnswer
-answered (some q) p = done q
-answered none p = refused p
+abbrev pub pipelineAnswered : Option Pipeline → Pipeline → PipelineAnswer
+pipelineAnswered (some q) p = pipelineDone q
+pipelineAnswered none p = pipelineRefused p
 
 -- a call's number, and the settings after it
 unfoldable pub pipelineStep : PipelineCall → Pipeline → PipelineAnswer
-pipelineStep call p = answered (accepted call p) p
+pipelineStep call p = pipelineAnswered (acceptedPipeline call p) p

@@ -3,7 +3,8 @@ ghost use mathlib.Core.Path.{_≡_};
 ghost use Rattle.number.specs.Tables.{lookup};
 ghost use Rattle.pipeline.specs.Enums.{compareFuncs, blendFactors, cullModes, frontFaces, fogModes, texEnvModes, compareOf, blendOf, cullOf};
 ghost use Rattle.pipeline.specs.Enums.{faceOf, fogOf, envOf, capabilityOf, fogParameterOf};
-ghost use Rattle.pipeline.specs.Pipeline.{freshUnit, freshPipeline, done, refused, answered, activeUnit, putUnit, fogSet, pipelineStep, activeTexture, capability};
+ghost use Rattle.pipeline.specs.Pipeline.{freshUnit, freshPipeline, pipelineDone, pipelineRefused, pipelineAnswered, activeUnit, putUnit, fogSet};
+ghost use Rattle.pipeline.specs.Pipeline.{pipelineStep, activeTexture, capability};
 ghost use Rattle.pipeline.specs.Pipeline.{texEnv, texEnvColor, depthFunc, depthRange, alphaFunc, blendFunc, cullFace, frontFace, fog};
 
 // What depth and alpha are compared by.
@@ -330,7 +331,7 @@ pub fn fresh_pipeline() -> Pipeline
 
 // The two answers of a call.
 fn accept(p: Pipeline) -> PipelineAnswer
-    ensures { λ r. ⌜ r ≡ done p ⌝ }
+    ensures { λ r. ⌜ r ≡ pipelineDone p ⌝ }
 {
     PipelineAnswer {
         number: 0,
@@ -339,7 +340,7 @@ fn accept(p: Pipeline) -> PipelineAnswer
 }
 
 fn refuse(p: Pipeline) -> PipelineAnswer
-    ensures { λ r. ⌜ r ≡ refused p ⌝ }
+    ensures { λ r. ⌜ r ≡ pipelineRefused p ⌝ }
 {
     PipelineAnswer {
         number: 0x0500,
@@ -359,7 +360,7 @@ fn active_unit(p: Pipeline) -> TextureUnit
 }
 
 fn put_active_unit(p: Pipeline, u: TextureUnit) -> PipelineAnswer
-    ensures { λ r. ⌜ r ≡ answered (putUnit u p) p ⌝ }
+    ensures { λ r. ⌜ r ≡ pipelineAnswered (putUnit u p) p ⌝ }
 {
     let i = p.active_texture as usize;
     if i < 4 {
@@ -573,7 +574,7 @@ pub fn set_front_face(p: Pipeline, mode: u32) -> PipelineAnswer
 
 // The fog mode by the whole part of the value.
 fn set_fog_mode(p: Pipeline, value: f32) -> PipelineAnswer
-    ensures { λ r. ⌜ r ≡ answered (fogSet FogParameter.Mode value p) p ⌝ }
+    ensures { λ r. ⌜ r ≡ pipelineAnswered (fogSet FogParameter.Mode value p) p ⌝ }
 {
     let code = number::whole_u32(value);
     let found = fog_mode(code);

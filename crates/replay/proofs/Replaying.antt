@@ -13,7 +13,7 @@ use Rattle.context.specs.State.{Fresh}
 use Rattle.list_words.specs.Words.{wordAt}
 use Rattle.trace_driver.specs.declared.Borrowed.{Borrowed}
 use Rattle.trace_driver.specs.Settings.{freshBorrowed, borrowedAfter}
-use Rattle.trace_driver.specs.Stacks.{stackSlots, stacksAfter}
+use Rattle.trace_driver.specs.Stacks.{stackSlots, outerStacksAfter}
 use Rattle.trace_driver.specs.Permitted.{isPermitted}
 use Rattle.trace_reader.specs.Kept.{ReadFrom}
 use Rattle.trace_reader.specs.declared.Header.{Header}
@@ -35,5 +35,6 @@ module _ (s0 g0 : List ℕ) (o0 : List Float) where
   pub follows : {c c1 : Context} {v v1 : Borrowed} {stacks stacks1 : List MatrixStack} {store guest store1 guest1 : List ℕ} {out out1 : List Float}
       {h : Header} {bytes w w1 : List ℕ} (words : List ℕ)
       → Replayed s0 g0 o0 (held c v stacks store guest out) → Comes c v h bytes w w1 → words ≡ take (h .n) w1 → Done c v (h .code) words bytes store guest out c1 store1 guest1 out1
-      → v1 ≡ borrowedAfter (h .code) (wordAt words 0) (wordAt words 1) v → stacks1 ≡ stacksAfter (h .code) words stacks → Replayed s0 g0 o0 (held c1 v1 stacks1 store1 guest1 out1)
+      → v1 ≡ borrowedAfter (h .code) (wordAt words 0) (wordAt words 1) v → stacks1 ≡ outerStacksAfter (h .code) words stacks
+      → Replayed s0 g0 o0 (held c1 v1 stacks1 store1 guest1 out1)
   follows words r k e d ev es = rw (ev, es, e) (followed r k (rw e at d))

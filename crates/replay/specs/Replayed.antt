@@ -12,7 +12,7 @@ use Rattle.context.specs.State.{Fresh}
 use Rattle.list_words.specs.Words.{wordAt}
 use Rattle.trace_driver.specs.declared.Borrowed.{Borrowed}
 use Rattle.trace_driver.specs.Settings.{freshBorrowed, borrowedAfter}
-use Rattle.trace_driver.specs.Stacks.{stackSlots, stacksAfter}
+use Rattle.trace_driver.specs.Stacks.{stackSlots, outerStacksAfter}
 use Rattle.trace_driver.specs.Permitted.{isPermitted}
 use Rattle.trace_reader.specs.Kept.{ReadFrom}
 use Rattle.trace_reader.specs.declared.Header.{Header}
@@ -42,7 +42,7 @@ pub data Replayed (s0 g0 : List ℕ) (o0 : List Float) : Held → Type 0 where
   followed : {c c1 : Context} {v : Borrowed} {stacks : List MatrixStack} {store guest store1 guest1 : List ℕ} {out out1 : List Float} {h : Header} {bytes w w1 : List ℕ}
       → Replayed s0 g0 o0 (held c v stacks store guest out) → Comes c v h bytes w w1 → Done c v (h .code) (take (h .n) w1) bytes store guest out c1 store1 guest1 out1
       → Replayed s0 g0 o0
-      (held c1 (borrowedAfter (h .code) (wordAt (take (h .n) w1) 0) (wordAt (take (h .n) w1) 1) v) (stacksAfter (h .code) (take (h .n) w1) stacks) store1 guest1 out1)
+      (held c1 (borrowedAfter (h .code) (wordAt (take (h .n) w1) 0) (wordAt (take (h .n) w1) 1) v) (outerStacksAfter (h .code) (take (h .n) w1) stacks) store1 guest1 out1)
 
 -- the areas in the end
 pub record Replays (s0 g0 : List ℕ) (o0 : List Float) (s1 g1 : List ℕ) (o1 : List Float) : Type 0 where

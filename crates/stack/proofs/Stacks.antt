@@ -10,8 +10,8 @@ use borrow.Author.Tests.{lt-ltb, le-ltb, ltb-true, eqb-true}
 use lib.Dec.{ltb, eqb}
 use lib.ListN.{length, getD, take, set, length-set}
 use lib.Seq.{take-suc-set, length-take-le, getD-take, take-take}
-use Rattle.stack.specs.Stack.{limit, Sound, MatrixCall, update, push, pop, stackNumber, StackState, stateOf, freshState, none, stackEffect}
-use Rattle.stack.specs.Stack.{stackStep, answer, changed, stackAnswer, freshStack}
+use Rattle.stack.specs.Stack.{limit, Sound, MatrixCall, update, push, pop, stackNumber, StackState, stackStateOf, freshStackState, noMatrix, stackEffect}
+use Rattle.stack.specs.Stack.{stackStep, stackAnswered, changed, stackAnswer, freshStack}
 use Rattle.stack.specs.declared.Matrix.{Matrix}
 use Rattle.stack.specs.declared.MatrixStack.{MatrixStack}
 use Rattle.stack.specs.declared.StackAnswer.{StackAnswer}
@@ -19,7 +19,7 @@ use Rattle.stack.specs.declared.StackAnswer.{StackAnswer}
 pub fresh-sound : Sound freshStack
 fresh-sound = record { places = refl; within = omega arith }
 
-pub fresh-state : stateOf freshStack ≡ freshState
+pub fresh-state : stackStateOf freshStack ≡ freshStackState
 fresh-state = refl
 
 -- a number is 0 only where the test passed
@@ -29,10 +29,10 @@ passed false n h e = absurd (omega arith)
 
 module _ (s : MatrixStack) (g : Sound s) where
   -- how many matrices are saved is what the answers go by
-  pub count : length (stateOf s .saved) ≡ s .depth
+  pub count : length (stackStateOf s .saved) ≡ s .depth
   count = length-take-le (s .depth) (s .saved) (rw (g .places) (g .within))
 
-  effect : (k : MatrixCall) → stackNumber k (s .depth) ≡ 0 → stateOf (changed k s) ≡ stackEffect k (stateOf s)
+  effect : (k : MatrixCall) → stackNumber k (s .depth) ≡ 0 → stackStateOf (changed k s) ≡ stackEffect k (stackStateOf s)
   effect (update u) e = refl
   effect push e =
       let h : s .depth < limit = ltb-true _ _ (passed _ 0x0503 (omega arith) e) in
@@ -42,7 +42,7 @@ module _ (s : MatrixStack) (g : Sound s) where
       let d = s .depth in
       let h : 0 < d = ltb-true _ _ (passed _ 0x0504 (omega arith) e) in
       let b : d - 1 < d = omega arith in
-      rw (count, getD-take d (s .saved) (d - 1) none b, take-take (d - 1) d (s .saved) (le-of-lt b))
+      rw (count, getD-take d (s .saved) (d - 1) noMatrix b, take-take (d - 1) d (s .saved) (le-of-lt b))
 
   effect-sound : (k : MatrixCall) → stackNumber k (s .depth) ≡ 0 → Sound (changed k s)
   effect-sound (update u) e = record { places = g .places; within = g .within }
@@ -53,7 +53,7 @@ module _ (s : MatrixStack) (g : Sound s) where
 
   -- of a sound stack the answer is one of two
   abbrev pub two : MatrixCall → Bool → StackAnswer
-  two k b = cond b (answer 0 (changed k s)) (answer (stackNumber k (s .depth)) s)
+  two k b = cond b (stackAnswered 0 (changed k s)) (stackAnswered (stackNumber k (s .depth)) s)
 
   pub is-two : (k : MatrixCall) → stackAnswer k s ≡ two k (eqb (stackNumber k (s .depth)) 0)
   unfolding stackAnswer
@@ -61,7 +61,7 @@ module _ (s : MatrixStack) (g : Sound s) where
 
   abbrev Follows : MatrixCall → StackAnswer → Type 0
   Follows k a =
-      (a .number ≡ stackNumber k (length (stateOf s .saved))) × (stateOf (a .stack) ≡ stackStep k (stateOf s)) × Sound (a .stack)
+      (a .number ≡ stackNumber k (length (stackStateOf s .saved))) × (stackStateOf (a .stack) ≡ stackStep k (stackStateOf s)) × Sound (a .stack)
 
   follows-two : (k : MatrixCall) (b : Bool) → eqb (stackNumber k (s .depth)) 0 ≡ b → Follows k (two k b)
   unfolding stackStep
@@ -79,13 +79,13 @@ pub stack-stays : (k : MatrixCall) (s : MatrixStack) → (stackAnswer k s .numbe
 unfolding stackAnswer
 stack-stays k s = go (ltb limit (s .depth)) (eqb (stackNumber k (s .depth)) 0)
   where
-    go : (a b : Bool) → (cond a (answer 1 s) (cond b (answer 0 (changed k s)) (answer (stackNumber k (s .depth)) s)) .number ≡ 0 → ⊥)
-        → cond a (answer 1 s) (cond b (answer 0 (changed k s)) (answer (stackNumber k (s .depth)) s)) .stack ≡ s
+    go : (a b : Bool) → (cond a (stackAnswered 1 s) (cond b (stackAnswered 0 (changed k s)) (stackAnswered (stackNumber k (s .depth)) s)) .number ≡ 0 → ⊥)
+        → cond a (stackAnswered 1 s) (cond b (stackAnswered 0 (changed k s)) (stackAnswered (stackNumber k (s .depth)) s)) .stack ≡ s
     go true b h = refl
     go false true h = absurd (h refl)
     go false false h = refl
 
 -- an unsound stack gives 1
-pub stack-unsound : (k : MatrixCall) (s : MatrixStack) → limit < s .depth → stackAnswer k s ≡ answer 1 s
+pub stack-unsound : (k : MatrixCall) (s : MatrixStack) → limit < s .depth → stackAnswer k s ≡ stackAnswered 1 s
 unfolding stackAnswer
 stack-unsound k s h = simp (lt-ltb limit (s .depth) h)

@@ -68,24 +68,24 @@ pub record StackState : Type 0 where
   pub current : Matrix
   pub saved : List Matrix
 
-abbrev pub stateOf : MatrixStack → StackState
-stateOf s = record { current = s .current; saved = take (s .depth) (s .saved) }
+abbrev pub stackStateOf : MatrixStack → StackState
+stackStateOf s = record { current = s .current; saved = take (s .depth) (s .saved) }
 
-abbrev pub freshState : StackState
-freshState = record { current = record { entries = identity }; saved = [] }
+abbrev pub freshStackState : StackState
+freshStackState = record { current = record { entries = identity }; saved = [] }
 
 abbrev pub withEntries : MatrixUpdate → Matrix → Matrix
 withEntries u m = record { entries = updated u (m .entries) }
 
 -- a matrix of no entries, where a list has no matrix
-abbrev pub none : Matrix
-none = record { entries = [] }
+abbrev pub noMatrix : Matrix
+noMatrix = record { entries = [] }
 
 -- push appends a copy of the current matrix; pop takes the last back
 abbrev pub stackEffect : MatrixCall → StackState → StackState
 stackEffect (update u) t = record { current = withEntries u (t .current); saved = t .saved }
 stackEffect push t = record { current = t .current; saved = t .saved ++ (t .current ∷ []) }
-stackEffect pop t = record { current = getD (t .saved) (length (t .saved) - 1) none; saved = take (length (t .saved) - 1) (t .saved) }
+stackEffect pop t = record { current = getD (t .saved) (length (t .saved) - 1) noMatrix; saved = take (length (t .saved) - 1) (t .saved) }
 
 -- a refused call changes nothing
 unfoldable pub stackStep : MatrixCall → StackState → StackState
@@ -93,19 +93,19 @@ stackStep k t = cond (eqb (stackNumber k (length (t .saved))) 0) (stackEffect k 
 
 -- ---- the same on the record, every place of it: what the functions promise
 
-abbrev pub answer : ℕ → MatrixStack → StackAnswer
-answer n s = record { number = n; stack = s }
+abbrev pub stackAnswered : ℕ → MatrixStack → StackAnswer
+stackAnswered n s = record { number = n; stack = s }
 
 abbrev pub changed : MatrixCall → MatrixStack → MatrixStack
 changed (update u) s = record { current = withEntries u (s .current); saved = s .saved; depth = s .depth }
 changed push s = record { current = s .current; saved = set (s .saved) (s .depth) (s .current); depth = s .depth + 1 }
-changed pop s = record { current = getD (s .saved) (s .depth - 1) none; saved = s .saved; depth = s .depth - 1 }
+changed pop s = record { current = getD (s .saved) (s .depth - 1) noMatrix; saved = s .saved; depth = s .depth - 1 }
 
 -- an unsound stack gives 1, and a refused call changes nothing
 unfoldable pub stackAnswer : MatrixCall → MatrixStack → StackAnswer
 stackAnswer k s =
-    cond (ltb limit (s .depth)) (answer 1 s)
-    (cond (eqb (stackNumber k (s .depth)) 0) (answer 0 (changed k s)) (answer (stackNumber k (s .depth)) s))
+    cond (ltb limit (s .depth)) (stackAnswered 1 s)
+    (cond (eqb (stackNumber k (s .depth)) 0) (stackAnswered 0 (changed k s)) (stackAnswered (stackNumber k (s .depth)) s))
 
 abbrev pub freshStack : MatrixStack
 freshStack = record { current = record { entries = identity }; saved = replicate limit (record { entries = identity }); depth = 0 }

@@ -8,7 +8,8 @@ use native.Mathlib.Omega.{arith}
 use borrow.Author.Tests.{lt-ltb, le-ltb}
 use lib.Dec.{ltb}
 use Rattle.buffers.specs.Bounded.{count}
-use Rattle.buffers.specs.Objects.{slotCount, nameAt, liveIn}
+use Rattle.buffers.specs.Objects.{slotCount, nameAt}
+use Rattle.buffers.specs.ObjectsCode.{liveIn}
 use Rattle.buffers.specs.declared.Slot.{Slot}
 use Rattle.buffers.proofs.Bounds.{lt-or-ge}
 use Rattle.buffers.specs.Live.{NextLive}

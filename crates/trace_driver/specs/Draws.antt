@@ -12,28 +12,28 @@ use Rattle.context.specs.Contract.{drawCall}
 abbrev pub roomOf : List ℕ → ℕ → ℕ
 roomOf w len = min (wordAt w 2) len
 
-abbrev pub listOf : List ℕ → Source
-listOf w = list (drop 4 w)
+abbrev pub traceList : List ℕ → Source
+traceList w = list (drop 4 w)
 
-abbrev pub rangeOf : List ℕ → Source
-rangeOf w = range (wordAt w 3) (wordAt w 4)
+abbrev pub traceRange : List ℕ → Source
+traceRange w = range (wordAt w 3) (wordAt w 4)
 
-abbrev pub elementsOf : List ℕ → Source
-elementsOf w = elements (wordAt w 3) (wordAt w 4) (wordAt w 5)
+abbrev pub traceElements : List ℕ → Source
+traceElements w = elements (wordAt w 3) (wordAt w 4) (wordAt w 5)
 
 -- a code that no row has counts as 0x62
-abbrev pub sourceRows : List ℕ → List (Row Source)
-sourceRows w =
-    0x60 names listOf w
-    ∷ 0x61 names rangeOf w
+abbrev pub traceSourceRows : List ℕ → List (Row Source)
+traceSourceRows w =
+    0x60 names traceList w
+    ∷ 0x61 names traceRange w
     ∷ []
 
-unfoldable pub sourceOf : ℕ → List ℕ → Source
-sourceOf code w = rowOr (sourceRows w) code (elementsOf w)
+unfoldable pub traceSource : ℕ → List ℕ → Source
+traceSource code w = rowOr (traceSourceRows w) code (traceElements w)
 
 -- a draw of a record's words, over guest bytes from `base` on and an output of so many f32
 abbrev pub drawFrom : Source → List ℕ → ℕ → List ℕ → ℕ → DrawCall
 drawFrom source w base guest room = drawCall source (wordAt w 0) (wordAt w 1) base guest room
 
-abbrev pub drawOf : ℕ → List ℕ → ℕ → List ℕ → ℕ → DrawCall
-drawOf code w base guest room = drawFrom (sourceOf code w) w base guest room
+abbrev pub traceDraw : ℕ → List ℕ → ℕ → List ℕ → ℕ → DrawCall
+traceDraw code w base guest room = drawFrom (traceSource code w) w base guest room

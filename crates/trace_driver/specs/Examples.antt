@@ -10,21 +10,21 @@ use Rattle.context.specs.Contract.{drawCall}
 use Rattle.number.specs.Bytes.{overwrite}
 use Rattle.trace_text.specs.Text.{putHeld}
 use Rattle.trace_driver.specs.Settings.{borrowed, freshBorrowed, borrowedAfter, storeAfter, guestAfter}
-use Rattle.trace_driver.specs.Permitted.{isCall, borrowsStore, isMade, canBeRead, isShort}
-use Rattle.trace_driver.specs.Draws.{sourceOf, drawOf}
+use Rattle.trace_driver.specs.Permitted.{isCall, codeBorrowsStore, isMade, canBeRead, isShort}
+use Rattle.trace_driver.specs.Draws.{traceSource, traceDraw}
 
 -- each draw from its words: mode 5, mask 3, output length 102
 module _ (base room : ℕ) (guest : List ℕ) where
-  pub list-draw : drawOf 0x60 (5 ∷ 3 ∷ 102 ∷ 2 ∷ 7 ∷ 9 ∷ []) base guest room ≡ drawCall (list (7 ∷ 9 ∷ [])) 5 3 base guest room
-  unfolding sourceOf
+  pub list-draw : traceDraw 0x60 (5 ∷ 3 ∷ 102 ∷ 2 ∷ 7 ∷ 9 ∷ []) base guest room ≡ drawCall (list (7 ∷ 9 ∷ [])) 5 3 base guest room
+  unfolding traceSource
   list-draw = refl
 
-  pub range-draw : drawOf 0x61 (5 ∷ 3 ∷ 102 ∷ 7 ∷ 9 ∷ []) base guest room ≡ drawCall (range 7 9) 5 3 base guest room
-  unfolding sourceOf
+  pub range-draw : traceDraw 0x61 (5 ∷ 3 ∷ 102 ∷ 7 ∷ 9 ∷ []) base guest room ≡ drawCall (range 7 9) 5 3 base guest room
+  unfolding traceSource
   range-draw = refl
 
-  pub stored-draw : drawOf 0x62 (5 ∷ 3 ∷ 102 ∷ 7 ∷ 0x1403 ∷ 64 ∷ []) base guest room ≡ drawCall (elements 7 0x1403 64) 5 3 base guest room
-  unfolding sourceOf
+  pub stored-draw : traceDraw 0x62 (5 ∷ 3 ∷ 102 ∷ 7 ∷ 0x1403 ∷ 64 ∷ []) base guest room ≡ drawCall (elements 7 0x1403 64) 5 3 base guest room
+  unfolding traceSource
   stored-draw = refl
 
 -- a new base leaves the rest; a new store length leaves the view
@@ -51,5 +51,5 @@ shorts = (refl, refl, refl)
 -- with another store only calls that borrow it are made; settings and DUMP are no calls
 pub short-store : (isMade 1000 0x23 ≡ true) × (isMade 1000 0x61 ≡ true) × (isMade 1000 0x21 ≡ false) × (isMade 1000 0x72 ≡ false)
     × (isMade 1000 0x05 ≡ true) × (isMade 1000 0x7f ≡ true) × (isMade storeBytes 0x21 ≡ true)
-unfolding isMade isCall borrowsStore
+unfolding isMade isCall codeBorrowsStore
 short-store = (refl, refl, refl, refl, refl, refl, refl)

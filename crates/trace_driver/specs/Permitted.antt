@@ -4,7 +4,8 @@ use mathlib.Core.List.{List, [], _∷_}
 use Prim.Native.Nat.{ℕ, _+_, _-_, _*_}
 use lib.Dec.{eqb, ltb, leb}
 use Rattle.number.specs.Tables.{Row, _names_, rowOr}
-use Rattle.buffers.specs.Objects.{storeBytes, liveIn}
+use Rattle.buffers.specs.Objects.{storeBytes}
+use Rattle.buffers.specs.ObjectsCode.{liveIn}
 use Rattle.buffers.specs.declared.Slot.{Slot}
 use Rattle.vertex.specs.Index.{rangeCount, indexWidth}
 use Rattle.context.specs.declared.Context.{Context}
@@ -31,11 +32,11 @@ storeCalls =
     ∷ 0x62 names true
     ∷ []
 
-unfoldable pub borrowsStore : ℕ → Bool
-borrowsStore code = rowOr storeCalls code false
+unfoldable pub codeBorrowsStore : ℕ → Bool
+codeBorrowsStore code = rowOr storeCalls code false
 
 unfoldable pub isMade : ℕ → ℕ → Bool
-isMade store code = eqb store storeBytes || (not (isCall code) || borrowsStore code)
+isMade store code = eqb store storeBytes || (not (isCall code) || codeBorrowsStore code)
 
 -- ---- the bounds that a state decides
 

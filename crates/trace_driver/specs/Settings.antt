@@ -4,7 +4,7 @@ use Prim.Native.Nat.{ℕ}
 use Rattle.number.specs.Tables.{Row, _names_, rowOr}
 use Rattle.buffers.specs.Objects.{storeBytes}
 use Rattle.list_words.specs.Words.{wordAt, bytesAt}
-use Rattle.trace_text.specs.Text.{Page, page, put}
+use Rattle.trace_text.specs.Text.{Page, page, putText}
 use Rattle.trace_format.specs.Trace.{storeArea}
 use Rattle.trace_format.specs.Fill.{filled, fillByte}
 use Rattle.trace_driver.specs.declared.Borrowed.{Borrowed}
@@ -32,12 +32,12 @@ borrowedAfter code a b v = rowOr (borrowedRows a b v) code v
 
 -- ---- the areas
 
-abbrev pub bytesOf : Page → List ℕ
-bytesOf (page bytes place) = bytes
+abbrev pub pageBytes : Page → List ℕ
+pageBytes (page bytes place) = bytes
 
 -- an area with bytes put at a place; as it was where they do not fit
 abbrev pub putAt : List ℕ → ℕ → List ℕ → List ℕ
-putAt area place new = bytesOf (put (page area place) new)
+putAt area place new = pageBytes (putText (page area place) new)
 
 -- the bytes of a record: after two words, the second of which is their number
 abbrev pub carried : List ℕ → List ℕ → List ℕ

@@ -18,11 +18,11 @@ ghost use Rattle.vertex.specs.Index.{rangeCount};
 ghost use Rattle.history.specs.Demand3.{DrawDid};
 ghost use Rattle.list_words.specs.Words.{wordAt};
 ghost use Rattle.list_records.specs.Perform.{Performs};
-ghost use Rattle.trace_format.specs.Decoded.{decoded};
+ghost use Rattle.trace_format.specs.Decoded.{decodedCall};
 ghost use Rattle.trace_driver.specs.Settings.{freshBorrowed, borrowedAfter, storeAfter, guestAfter};
 ghost use Rattle.trace_driver.specs.Stacks.{matrixAt, stackOf, stackRecord};
-ghost use Rattle.trace_driver.specs.Permitted.{anyLive, isCall, borrowsStore, isMade, canBeRead, isShort, isFew, suits, isPermitted};
-ghost use Rattle.trace_driver.specs.Draws.{roomOf, listOf, rangeOf, elementsOf, drawFrom, drawOf};
+ghost use Rattle.trace_driver.specs.Permitted.{anyLive, isCall, codeBorrowsStore, isMade, canBeRead, isShort, isFew, suits, isPermitted};
+ghost use Rattle.trace_driver.specs.Draws.{roomOf, traceList, traceRange, traceElements, drawFrom, traceDraw};
 
 // ---- settings
 
@@ -179,7 +179,7 @@ fn is_call(code: u32) -> bool
 }
 
 fn borrows_store(code: u32) -> bool
-    ensures { λ r. ⌜ r ≡ borrowsStore code ⌝ }
+    ensures { λ r. ⌜ r ≡ codeBorrowsStore code ⌝ }
 {
     match code {
         0x23 => true,
@@ -294,7 +294,7 @@ pub fn call(
     out: &mut [f32],
 ) -> CallReply
     ensures { λ r. ⌜ Performs c (now (store .entry)) (now (out .entry)) r (now (store .exit)) (now (out .exit))
-        (decoded (now (bytes .entry)) (length (now (out .entry))) code (now (w .entry))) ⌝ }
+        (decodedCall (now (bytes .entry)) (length (now (out .entry))) code (now (w .entry))) ⌝ }
 {
     let made = trace_format::made_words(code, w);
     let words = trace_format::call_words(code, w, &made);
@@ -318,7 +318,7 @@ fn draw_list<'a>(
     guest: &'a [u8],
     out: &mut [f32],
 ) -> DrawReply
-    ensures { λ r. ⌜ DrawDid (drawFrom (listOf (now (w .entry))) (now (w .entry)) base (now (guest .entry)) (length (now (out .entry))))
+    ensures { λ r. ⌜ DrawDid (drawFrom (traceList (now (w .entry))) (now (w .entry)) base (now (guest .entry)) (length (now (out .entry))))
         c (now (store .entry)) r (now (out .entry)) (now (out .exit)) ⌝ }
 {
     let mode = list_words::word_at(w, 0);
@@ -335,7 +335,7 @@ fn draw_range<'a>(
     guest: &'a [u8],
     out: &mut [f32],
 ) -> DrawReply
-    ensures { λ r. ⌜ DrawDid (drawFrom (rangeOf (now (w .entry))) (now (w .entry)) base (now (guest .entry)) (length (now (out .entry))))
+    ensures { λ r. ⌜ DrawDid (drawFrom (traceRange (now (w .entry))) (now (w .entry)) base (now (guest .entry)) (length (now (out .entry))))
         c (now (store .entry)) r (now (out .entry)) (now (out .exit)) ⌝ }
 {
     let mode = list_words::word_at(w, 0);
@@ -353,7 +353,7 @@ fn draw_stored<'a>(
     guest: &'a [u8],
     out: &mut [f32],
 ) -> DrawReply
-    ensures { λ r. ⌜ DrawDid (drawFrom (elementsOf (now (w .entry))) (now (w .entry)) base (now (guest .entry)) (length (now (out .entry))))
+    ensures { λ r. ⌜ DrawDid (drawFrom (traceElements (now (w .entry))) (now (w .entry)) base (now (guest .entry)) (length (now (out .entry))))
         c (now (store .entry)) r (now (out .entry)) (now (out .exit)) ⌝ }
 {
     let mode = list_words::word_at(w, 0);
@@ -374,7 +374,8 @@ pub fn draw<'a>(
     guest: &'a [u8],
     out: &mut [f32],
 ) -> DrawReply
-    ensures { λ r. ⌜ DrawDid (drawOf code (now (w .entry)) base (now (guest .entry)) (length (now (out .entry)))) c (now (store .entry)) r (now (out .entry)) (now (out .exit)) ⌝ }
+    ensures { λ r. ⌜ DrawDid (traceDraw code (now (w .entry)) base (now (guest .entry)) (length (now (out .entry))))
+        c (now (store .entry)) r (now (out .entry)) (now (out .exit)) ⌝ }
 {
     match code {
         0x60 => draw_list(c, w, store, base, guest, out),

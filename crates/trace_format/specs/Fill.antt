@@ -5,7 +5,7 @@ use Prim.Native.Nat.{ℕ, zero, suc, _+_, _*_, _/_, _%_, _^_, _<_, _≤_, min}
 use lib.ListN.{length, getD, take, drop}
 use lib.Bits.{bitXor}
 use lib.Ieee.{Float, nan, binary32, toBits}
-use Rattle.number.specs.Numbers.{le}
+use Rattle.number.specs.Numbers.{littleEndian}
 
 -- f 0, .., f (n - 1)
 unfoldable pub tabulate : {A : Type 0} → (ℕ → A) → ℕ → List A
@@ -34,7 +34,7 @@ FirstTouched out start r = (start ≤ r) × (((i : ℕ) → start ≤ i → i < 
 
 -- word i of bytes, little-endian
 abbrev pub wordOf : List ℕ → ℕ → ℕ
-wordOf bytes i = le (take 4 (drop (4 * i) bytes))
+wordOf bytes i = littleEndian (take 4 (drop (4 * i) bytes))
 
 -- 32-bit FNV-1a
 abbrev pub hashStep : ℕ → ℕ → ℕ

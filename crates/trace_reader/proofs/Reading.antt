@@ -5,7 +5,7 @@ use Prim.Native.Nat.{ℕ, zero, suc, _*_, _/_, _<_, _≤_, min}
 use native.Mathlib.Omega.{arith}
 use lib.ListN.{length, take, drop, take-append-drop, length-drop}
 use lib.Seq.{take-append-le, drop-append-le, length-take-le}
-use Rattle.number.specs.Numbers.{le}
+use Rattle.number.specs.Numbers.{littleEndian}
 use Rattle.list_words.specs.Words.{bytesAt}
 use Rattle.trace_format.specs.Fill.{tabulate, filled, wordOf}
 
@@ -13,8 +13,8 @@ use Rattle.trace_format.specs.Fill.{tabulate, filled, wordOf}
 front-word : (bytes : List ℕ) (n i : ℕ) → 4 * n ≤ length bytes → i < n → wordOf (take (4 * n) bytes) i ≡ wordOf bytes i
 front-word bytes n i h l =
     let front : length (take (4 * n) bytes) ≡ 4 * n = length-take-le (4 * n) bytes h in
-    ap le (sym (take-append-le 4 (drop (4 * i) (take (4 * n) bytes)) (drop (4 * n) bytes) (omega (arith, length-drop (4 * i) (take (4 * n) bytes)))))
-    ∙ ap (λ b. le (take 4 b)) (sym (drop-append-le (4 * i) (take (4 * n) bytes) (drop (4 * n) bytes) (omega arith)))
+    ap littleEndian (sym (take-append-le 4 (drop (4 * i) (take (4 * n) bytes)) (drop (4 * n) bytes) (omega (arith, length-drop (4 * i) (take (4 * n) bytes)))))
+    ∙ ap (λ b. littleEndian (take 4 b)) (sym (drop-append-le (4 * i) (take (4 * n) bytes) (drop (4 * n) bytes) (omega arith)))
     ∙ ap (λ b. wordOf b i) (take-append-drop (4 * n) bytes)
 
 tabulate-same : {A : Type 0} (f g : ℕ → A) (n : ℕ) → ((i : ℕ) → i < n → f i ≡ g i) → tabulate f n ≡ tabulate g n

@@ -13,10 +13,10 @@ use Rattle.list_words.specs.Words.{wordAt}
 use Rattle.list_records.specs.declared.CallReply.{CallReply}
 use Rattle.list_records.specs.Perform.{Performs}
 use Rattle.trace_format.specs.Fill.{filled, markBits}
-use Rattle.trace_format.specs.Decoded.{decoded}
+use Rattle.trace_format.specs.Decoded.{decodedCall}
 use Rattle.trace_driver.specs.declared.Borrowed.{Borrowed}
 use Rattle.trace_driver.specs.Settings.{storeAfter, guestAfter}
-use Rattle.trace_driver.specs.Draws.{roomOf, drawOf}
+use Rattle.trace_driver.specs.Draws.{roomOf, traceDraw}
 use Rattle.trace_unsound.specs.Kinds.{ContextMade}
 
 -- an output before a draw
@@ -26,13 +26,13 @@ marked out = filled (λ i. ofBits binary32 (markBits i)) (length out) out
 -- a call was made with the words of a record and their bytes
 pub record CallDone (c : Context) (code : ℕ) (w bytes s : List ℕ) (out : List Float) (c1 : Context) (s1 : List ℕ) (out1 : List Float) : Type 0 where
   pub reply : CallReply
-  pub made : Performs c s out reply s1 out1 (decoded bytes (length out) code w)
+  pub made : Performs c s out reply s1 out1 (decodedCall bytes (length out) code w)
   pub context : c1 ≡ reply .context
 
 -- a draw was made with the words of a record, on a marked output
 pub record DrawDone (c : Context) (code : ℕ) (w s : List ℕ) (base : ℕ) (guest : List ℕ) (out : List Float) (c1 : Context) (out1 : List Float) : Type 0 where
   pub reply : DrawReply
-  pub did : DrawDid (drawOf code w base guest (length (marked out))) c s reply (marked out) out1
+  pub did : DrawDid (traceDraw code w base guest (length (marked out))) c s reply (marked out) out1
   pub context : c1 ≡ reply .context
 
 -- a record on the context that is no call, with its first word: FRESH, UNSOUND; any other leaves it

@@ -3,7 +3,7 @@ use context::Context;
 use stack::MatrixStack;
 use trace_driver::Borrowed;
 ghost use mathlib.Core.Path.{_≡_};
-ghost use Rattle.trace_driver.specs.Stacks.{isStackRecord, stackRecord, stacksAfter};
+ghost use Rattle.trace_driver.specs.Stacks.{isStackRecord, stackRecord, outerStacksAfter};
 ghost use Rattle.trace_session.specs.Records.{CallDone, DrawDone, Inspected, Done};
 
 // ---- calls
@@ -78,7 +78,7 @@ fn is_stack(code: u32) -> bool
 
 // The stacks outside the context after a record.
 pub fn use_stacks(stacks: [MatrixStack; 4], code: u32, w: &[u32]) -> [MatrixStack; 4]
-    ensures { λ r. ⌜ r ≡ stacksAfter code (now (w .entry)) stacks ⌝ }
+    ensures { λ r. ⌜ r ≡ outerStacksAfter code (now (w .entry)) stacks ⌝ }
 {
     let mut out = stacks;
     let slot = list_words::word_at(w, 0) as usize;

@@ -11,7 +11,7 @@ use lib.ListN.{length, take, drop, getD}
 use lib.Seq.{drop-cons, take-at}
 use Rattle.io.specs.Digits.{glyph, digits, Fewest}
 use Rattle.number.specs.Bytes.{overwrite}
-use Rattle.trace_text.specs.Text.{Page, page, put, putHeld, decimalIn, decimal, hex, shownBits, putFloat}
+use Rattle.trace_text.specs.Text.{Page, page, putText, putHeld, decimalIn, decimal, hex, shownBits, putFloat}
 
 pub glyph-low : (d : ℕ) → d < 10 → 48 + d ≡ glyph d
 glyph-low d h = rw (lt-ltb d 10 h)
@@ -41,18 +41,18 @@ shown nan = refl
 shown (inf s) = refl
 shown (fin s m e) = refl
 
--- the two cases of `put`, from the place where the text starts
+-- the two cases of `putText`, from the place where the text starts
 module _ (bytes : List ℕ) (at : ℕ) (text : List ℕ) (start : ℕ) (held-at : start ≡ min at (length bytes)) where
-  pub put-fits : length text ≤ length bytes - start → page (overwrite bytes start text) (start + length text) ≡ put (page bytes at) text
+  pub put-fits : length text ≤ length bytes - start → page (overwrite bytes start text) (start + length text) ≡ putText (page bytes at) text
   unfolding putHeld
   put-fits h = rw (← held-at, le-leb (start + length text) (length bytes) (omega arith))
 
-  pub put-full : length bytes - start < length text → page bytes start ≡ put (page bytes at) text
+  pub put-full : length bytes - start < length text → page bytes start ≡ putText (page bytes at) text
   unfolding putHeld
   put-full h = rw (← held-at, lt-leb (start + length text) (length bytes) (omega arith))
 
 -- a text put behind a first byte
-pub behind : (b : ℕ) (rest text after : List ℕ) (end : ℕ) → length text ≤ length rest → page after end ≡ put (page (b ∷ rest) 1) text → take end after ≡ b ∷ text
+pub behind : (b : ℕ) (rest text after : List ℕ) (end : ℕ) → length text ≤ length rest → page after end ≡ putText (page (b ∷ rest) 1) text → take end after ≡ b ∷ text
 unfolding overwrite
 behind b rest text after end room e =
     let p : page after end ≡ page (overwrite (b ∷ rest) 1 text) (1 + length text) = e ∙ sym (put-fits (b ∷ rest) 1 text 1 (omega arith) (omega arith)) in

@@ -12,16 +12,16 @@ pub data Page : Type 0 where
   page : List ℕ → ℕ → Page
 
 -- the place held within the bytes: one behind them counts as their end
-abbrev pub held : Page → Page
-held (page bytes place) = page bytes (min place (length bytes))
+abbrev pub heldPage : Page → Page
+heldPage (page bytes place) = page bytes (min place (length bytes))
 
 -- the text at a place within the bytes, and the place after it; nothing where it does not fit
 unfoldable pub putHeld : Page → List ℕ → Page
 putHeld (page bytes at) text =
     cond (leb (at + length text) (length bytes)) (page (overwrite bytes at text) (at + length text)) (page bytes at)
 
-abbrev pub put : Page → List ℕ → Page
-put p text = putHeld (held p) text
+abbrev pub putText : Page → List ℕ → Page
+putText p text = putHeld (heldPage p) text
 
 -- the decimal digits of n, the most significant first, in at most so many steps. There are more steps than digits.
 abbrev pub decimalIn : ℕ → ℕ → List ℕ
@@ -44,11 +44,11 @@ abbrev pub spaced : List ℕ → List ℕ
 spaced text = 32 ∷ text
 
 abbrev pub putNumber : Page → ℕ → Page
-putNumber p n = put p (spaced (decimal n))
+putNumber p n = putText p (spaced (decimal n))
 
 abbrev pub putFloat : Page → Float → Page
-putFloat p x = put p (spaced (hex (shownBits x)))
+putFloat p x = putText p (spaced (hex (shownBits x)))
 
 -- each of some, in order
 abbrev pub putEach : {A : Type 0} → (Page → A → Page) → Page → List A → Page
-putEach f p l = foldl f (held p) l
+putEach f p l = foldl f (heldPage p) l

@@ -6,7 +6,7 @@ ghost use lib.ListN.{length};
 ghost use Rattle.io.specs.Counts.{Counts};
 ghost use Rattle.io.specs.Digits.{glyph};
 ghost use Rattle.trace_text.specs.Text.{page, decimal, hex, shownBits, spaced, putFloat, putEach, putNumber};
-ghost use Rattle.trace_text.specs.Text.{put as Text·put};
+ghost use Rattle.trace_text.specs.Text.{putText};
 
 // A place, or the area's end where it lies behind that.
 fn start_of(area: &[u8], at: usize) -> usize
@@ -18,7 +18,7 @@ fn start_of(area: &[u8], at: usize) -> usize
 // A text.
 pub fn put(area: &mut [u8], at: usize, text: &[u8]) -> usize
     ensures { λ r. ⌜ Counts r (now (area .exit)) ⌝ }
-    ensures { λ r. ⌜ page (now (area .exit)) r ≡ Text·put (page (now (area .entry)) at) (now (text .entry)) ⌝ }
+    ensures { λ r. ⌜ page (now (area .exit)) r ≡ putText (page (now (area .entry)) at) (now (text .entry)) ⌝ }
 {
     let start = start_of(area, at);
     if area.len() - start < text.len() {
@@ -66,7 +66,7 @@ fn hex_digits(w: u32) -> [u8; 8]
 // The eight hexadecimal digits of w.
 pub fn put_hex(area: &mut [u8], at: usize, w: u32) -> usize
     ensures { λ r. ⌜ Counts r (now (area .exit)) ⌝ }
-    ensures { λ r. ⌜ page (now (area .exit)) r ≡ Text·put (page (now (area .entry)) at) (hex w) ⌝ }
+    ensures { λ r. ⌜ page (now (area .exit)) r ≡ putText (page (now (area .entry)) at) (hex w) ⌝ }
 {
     let text = hex_digits(w);
     put(area, at, &text)

@@ -17,7 +17,8 @@ use Rattle.pipeline.specs.declared.Pipeline.{Pipeline}
 use Rattle.context.specs.declared.MatrixMode.{MatrixMode}
 use Rattle.context.specs.declared.Context.{Context}
 use Rattle.context.specs.State.{stackAt}
-use Rattle.context.specs.Contract.{putStack, putStacks, putBuffers, putArrays, putPipeline}
+use Rattle.context.specs.Contract.{putStack, putBuffers}
+use Rattle.context.specs.ContractCode.{putStacks, putArrays, putPipeline}
 use Rattle.buffers.specs.Live.{NextLive}
 
 -- ---- stacks and units
@@ -55,8 +56,8 @@ abbrev pub slot : ℕ → ℕ → Slot
 slot name len = record { name = name; len = len }
 
 -- what slot k holds is replaced, where there is a slot k
-unfoldable pub withSlot : ℕ → Slot → Buffers → Buffers
-withSlot k s b = cond (ltb k slotCount) (buffersOf (set (b .slots) k s) (b .next) (b .«array_buffer») (b .«element_buffer»)) b
+unfoldable pub slotReplaced : ℕ → Slot → Buffers → Buffers
+slotReplaced k s b = cond (ltb k slotCount) (buffersOf (set (b .slots) k s) (b .next) (b .«array_buffer») (b .«element_buffer»)) b
 
 -- a slot other than k
 abbrev pub otherThan : ℕ → ℕ
@@ -69,10 +70,10 @@ pub record Greatest (slots : List Slot) (n r : ℕ) : Type 0 where
 
 -- k: the slot of the least live name; last: the greatest live name.
 -- 6: its length 4,097; 7: the name in two slots; 9: next 0; 10: next the greatest; 11: the array binding to next, which is not live while the buffers are sound
-abbrev pub bufferRows : ℕ → ℕ → Buffers → List (Row Buffers)
-bufferRows k last b =
-    6 names withSlot k (slot (nameAt (b .slots) k) (slotBytes + 1)) b
-    ∷ 7 names withSlot (otherThan k) (slot (nameAt (b .slots) k) 0) b
+abbrev pub unsoundBufferRows : ℕ → ℕ → Buffers → List (Row Buffers)
+unsoundBufferRows k last b =
+    6 names slotReplaced k (slot (nameAt (b .slots) k) (slotBytes + 1)) b
+    ∷ 7 names slotReplaced (otherThan k) (slot (nameAt (b .slots) k) 0) b
     ∷ 9 names buffersOf (b .slots) 0 (b .«array_buffer») (b .«element_buffer»)
     ∷ 10 names buffersOf (b .slots) last (b .«array_buffer») (b .«element_buffer»)
     ∷ 11 names buffersOf (b .slots) (b .next) (b .next) (b .«element_buffer»)
@@ -80,7 +81,7 @@ bufferRows k last b =
 
 -- a kind that no row has counts as 12: the element binding to next
 unfoldable pub buffersMade : ℕ → ℕ → ℕ → Buffers → Buffers
-buffersMade kind k last b = rowOr (bufferRows k last b) kind (buffersOf (b .slots) (b .next) (b .«array_buffer») (b .next))
+buffersMade kind k last b = rowOr (unsoundBufferRows k last b) kind (buffersOf (b .slots) (b .next) (b .«array_buffer») (b .next))
 
 pub record BuffersMade (b : Buffers) (kind : ℕ) (r : Buffers) : Type 0 where
   pub slot-of-least : ℕ

@@ -20,7 +20,8 @@ use Rattle.context.specs.declared.Context.{Context}
 use Rattle.context.specs.declared.MatrixMode.{MatrixMode}
 use Rattle.context.specs.State.{Sound}
 use Rattle.context.specs.Contract.{putBuffers}
-use Rattle.trace_unsound.specs.Kinds.{deepen, slot, withSlot, otherThan, buffersOf, Greatest, bufferRows, buffersMade, BuffersMade, contextRows, contextMade, ContextMade}
+use Rattle.trace_unsound.specs.Kinds.{deepen, slot, slotReplaced, otherThan, buffersOf, Greatest, unsoundBufferRows, buffersMade, BuffersMade}
+use Rattle.trace_unsound.specs.Kinds.{contextRows, contextMade, ContextMade}
 
 -- ---- what holds of every row of a table, and of what stands for the rest, holds of what is looked up
 
@@ -74,11 +75,11 @@ module _ (b : Buffers) (places : length (b .slots) ≡ slotCount) (k last : ℕ)
       let f : nameAt (set (b .slots) j same) k ≡ nameAt (b .slots) k = ap (λ (s : Slot). s .name) (getD-set-other (b .slots) j k same freeSlot other) in
       other (h .once k j lives l (omega arith) (f ∙ sym e))
 
-  in-two : Refused (withSlot (otherThan k) (slot (nameAt (b .slots) k) 0) b)
-  unfolding withSlot
+  in-two : Refused (slotReplaced (otherThan k) (slot (nameAt (b .slots) k) 0) b)
+  unfolding slotReplaced
   in-two = go (eqb k 0) refl
     where
-      go : (z : Bool) → eqb k 0 ≡ z → Refused (withSlot (cond z 1 0) (slot (nameAt (b .slots) k) 0) b)
+      go : (z : Bool) → eqb k 0 ≡ z → Refused (slotReplaced (cond z 1 0) (slot (nameAt (b .slots) k) 0) b)
       go true e = twice 1 (omega arith) (λ q. omega (arith, eqb-true k 0 e))
       go false e = twice 0 (omega arith) (λ q. eqb-false k 0 e q)
 
@@ -86,9 +87,9 @@ module _ (b : Buffers) (places : length (b .slots) ≡ slotCount) (k last : ℕ)
   at-greatest h = ⊎-elim (λ (l : 0 < last). low-next _ (inr (greatest .live l)) h) (λ (z : last ≤ 0). low-next _ (inl (omega arith)) h) (lt-or-ge 0 last)
 
   pub buffers-refused : (kind : ℕ) → Refused (buffersMade kind k last b)
-  unfolding withSlot buffersMade
+  unfolding slotReplaced buffersMade
   buffers-refused kind =
-      each Refused (bufferRows k last b) kind (buffersOf (b .slots) (b .next) (b .«array_buffer») (b .next))
+      each Refused (unsoundBufferRows k last b) kind (buffersOf (b .slots) (b .next) (b .«array_buffer») (b .next))
       (rw (lt-ltb k slotCount lives) too-long, (in-two, (low-next _ (inl refl), (at-greatest, ((λ h. low-next _ (h .array-live) h), tt)))))
       (λ h. low-next _ (h .element-live) h)
 

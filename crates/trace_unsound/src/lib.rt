@@ -8,7 +8,7 @@ use context::Context;
 ghost use mathlib.Core.Path.{_≡_};
 ghost use Prim.Native.Nat.{max};
 ghost use Rattle.buffers.specs.Objects.{slotCount};
-ghost use Rattle.trace_unsound.specs.Kinds.{Greatest, withSlot, otherThan, BuffersMade, ContextMade};
+ghost use Rattle.trace_unsound.specs.Kinds.{Greatest, slotReplaced, otherThan, BuffersMade, ContextMade};
 
 // One more than a stack saves.
 const TOO_DEEP: usize = 16;
@@ -20,7 +20,7 @@ const TOO_LONG: u32 = 4097;
 const NO_UNIT: u32 = 4;
 
 fn with_slot(b: Buffers, k: usize, slot: Slot) -> Buffers
-    ensures { λ r. ⌜ r ≡ withSlot k slot b ⌝ }
+    ensures { λ r. ⌜ r ≡ slotReplaced k slot b ⌝ }
 {
     let mut out = b;
     if k < SLOT_COUNT {

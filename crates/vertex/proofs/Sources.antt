@@ -13,7 +13,7 @@ use Rattle.buffers.proofs.Bounds.{never}
 use Rattle.fetch.specs.Fetch.{Part, bytes, noBuffer, unreadable, inBuffer, inGuest, partOf, partState, bytesIn}
 use Rattle.vertex.specs.Scene.{Scene, elements}
 use Rattle.vertex.specs.Index.{numbers, indexWidth, indexPart, indicesIn, indicesFrom}
-use Rattle.vertex.specs.Represented.{indexList}
+use Rattle.vertex.specs.SceneCode.{indexList}
 use Rattle.vertex.specs.Questions.{listNumber, partNumber, elementsNumber, viewNumber, validation}
 use Rattle.vertex.specs.declared.Indices.{Indices}
 

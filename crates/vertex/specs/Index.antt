@@ -4,7 +4,7 @@ use mathlib.Core.List.{List, [], _∷_}
 use Prim.Native.Nat.{ℕ, zero, suc, _+_, _-_, _*_, min}
 use lib.Dec.{eqb}
 use lib.ListN.{length, take, drop}
-use Rattle.number.specs.Numbers.{le}
+use Rattle.number.specs.Numbers.{littleEndian}
 use Rattle.fetch.specs.Fetch.{Part, bytes, noBuffer, unreadable, partOf}
 use Rattle.vertex.specs.Scene.{Scene, Source, list, range, elements}
 
@@ -24,7 +24,7 @@ indexWidth ty = cond (eqb ty 0x1401) 1 (cond (eqb ty 0x1403) 2 0)
 -- n little-endian numbers of `width` bytes each
 unfoldable pub numbers : ℕ → ℕ → List ℕ → List ℕ
 numbers width zero bs = []
-numbers width (suc n) bs = le (take width bs) ∷ numbers width n (drop width bs)
+numbers width (suc n) bs = littleEndian (take width bs) ∷ numbers width n (drop width bs)
 
 -- the bytes of a draw's indices: in the element buffer if one is bound, else in guest memory
 abbrev pub indexPart : Scene → ℕ → ℕ → ℕ → ℕ → Part

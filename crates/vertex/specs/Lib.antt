@@ -2,4 +2,4 @@ pub mod Scene
 pub mod Index
 pub mod Vertex
 pub mod Questions
-pub mod Represented
+pub mod SceneCode

@@ -10,7 +10,7 @@ ghost use Prim.Native.Nat.{ℕ, _+_, _-_, _/_, _%_, _<_, min};
 ghost use lib.Dec.{eqb};
 ghost use lib.ListN.{length, getD};
 ghost use Rattle.vertex.specs.Index.{upFrom, numbers, indexWidth};
-ghost use Rattle.vertex.specs.Represented.{sceneIn, indexList};
+ghost use Rattle.vertex.specs.SceneCode.{sceneIn, indexList};
 ghost use Rattle.vertex.specs.Questions.{elementsNumber, viewNumber, partNumber};
 
 // Where the indices of a draw come from: the borrowed list; from a number up to another, the end left out; bytes or little-endian shorts of the borrowed element bytes.
@@ -22,7 +22,7 @@ pub enum Indices {
 }
 
 // What a vertex is made from, besides its index and the bytes of store and guest.
-pub struct Scene {
+pub struct DrawInputs {
     pub transform: [f32; 16],
     pub modelview: [f32; 16],
     pub texture: [f32; 16],
@@ -167,7 +167,7 @@ pub fn view_number(base: u32, len: usize, stages: u32) -> u32
 
 // The number of the first test that fails on indices in the element buffer or in guest memory, 0 where all pass.
 pub fn stored_number<'a>(
-    s: Scene,
+    s: DrawInputs,
     store: &'a [u8],
     guest: &'a [u8],
     element: u32,

@@ -1,6 +1,6 @@
 -- `assembly::assemble` meets its contract, from what the inner functions ensure.
 use denote.Ref.{now}
-use Rattle.vertex.specs.Represented.{sceneIn}
+use Rattle.vertex.specs.SceneCode.{sceneIn}
 use Rattle.assembly.proofs.Fetching.{assembled}
 use borrow.Author.Needs.{needs}
 use Rattle.assembly.proofs.assemble.Statement.{statement}
@@ -18,7 +18,8 @@ pairs-at-requires c κs = c .before .before .before .before .before .before .bef
 returns : tie.Need-returns
 returns c =
     let c2 = c .before .before in let c6 = c2 .before .before .before .before in let c8 = c6 .before .before in let start = c8 .before .before .before .before in
-    assembled (sceneIn (start .args .s) (now (start .args .store)) (now (start .args .guest))) (start .args .index) (c6 .position-at .ensures) (c2 .before .transform2 .ensures) (c2 .transform3 .ensures)
+    let s = sceneIn (start .args .s) (now (start .args .store)) (now (start .args .guest)) in
+    assembled s (start .args .index) (c6 .position-at .ensures) (c2 .before .transform2 .ensures) (c2 .transform3 .ensures)
     (c8 .color-at .ensures) (c .before .pairs-at .ensures) (c .abs .ensures)
 
 pub assemble-spec : {M : Type 1} → statement M

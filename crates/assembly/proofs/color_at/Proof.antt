@@ -4,7 +4,7 @@ use mathlib.Core.Path.{sym, ap, _∙_}
 use denote.Ref.{now}
 use borrow.Author.Tests.{not-true, not-false}
 use Rattle.fetch.specs.declared.ArrayPointer.{ArrayPointer}
-use Rattle.vertex.specs.Represented.{sceneIn}
+use Rattle.vertex.specs.SceneCode.{sceneIn}
 use Rattle.vertex.specs.Vertex.{elementOf}
 use Rattle.assembly.proofs.Fetching.{own-array, color-off, color-from}
 use borrow.Author.Needs.{needs}
@@ -14,10 +14,15 @@ use Rattle.assembly.proofs.color_at.Tie as tie
 returns : tie.Need-returns
 returns c =
     let start = c .before .before .before .before .before in
-    color-off (sceneIn (start .args .s) (now (start .args .store)) (now (start .args .guest))) (start .args .index) (ap (λ (a : ArrayPointer). a .enabled) (sym (start .pre .array)) ∙ not-true (start .args .e .array .enabled) (c .if1 .taken))
+    let s = sceneIn (start .args .s) (now (start .args .store)) (now (start .args .guest)) in
+    color-off s (start .args .index)
+    (ap (λ (a : ArrayPointer). a .enabled) (sym (start .pre .array)) ∙ not-true (start .args .e .array .enabled) (c .if1 .taken))
 
 fetch-color-requires : tie.Need-fetch-color-requires
-fetch-color-requires c κs = let start = c .before .before .before .before .before in own-array (sceneIn (start .args .s) (now (start .args .store)) (now (start .args .guest))) (now (start .args .store)) (start .args .e) (start .pre)
+fetch-color-requires c κs =
+    let start = c .before .before .before .before .before in
+    let s = sceneIn (start .args .s) (now (start .args .store)) (now (start .args .guest)) in
+    own-array s (now (start .args .store)) (start .args .e) (start .pre)
 
 returns-2 : tie.Need-returns-2
 returns-2 c =

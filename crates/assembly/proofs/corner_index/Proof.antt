@@ -4,8 +4,9 @@ use mathlib.Core.Path.{_≡_, ap, _∙_}
 use denote.Ref.{now}
 use lib.ListN.{getD}
 use borrow.Author.Tests.{lt-ltb}
-use Rattle.corners.specs.Places.{reach, cornerPlace}
-use Rattle.vertex.specs.Represented.{indexList}
+use Rattle.corners.specs.Places.{cornerPlace}
+use Rattle.corners.specs.PlacesCode.{reach}
+use Rattle.vertex.specs.SceneCode.{indexList}
 use borrow.Author.Needs.{needs}
 use Rattle.assembly.proofs.corner_index.Statement.{statement}
 use Rattle.assembly.proofs.corner_index.Tie as tie

@@ -10,7 +10,7 @@ use lib.Dec.{eqb}
 use Rattle.buffers.specs.Bounded.{first, firstFrom}
 use Rattle.vertex.specs.Scene.{Scene}
 use Rattle.vertex.specs.Questions.{fails}
-use Rattle.vertex.specs.Represented.{sceneIn, indexList}
+use Rattle.vertex.specs.SceneCode.{sceneIn, indexList}
 use Rattle.vertex.proofs.Search.{first-pass, first-found, first-none}
 use Rattle.assembly.specs.Elements.{PreparesFor}
 use Rattle.assembly.proofs.Fetching.{position-asked}
@@ -31,12 +31,13 @@ loop-holds c = (search needs, λ s h. rw sub-zero)
 
 loop-again : tie.Need-loop-again Inv-loop μ-loop
 loop-again c =
-    let c2 = c .before .before in let c4 = c2 .before .before in let start = c4 .before .before .before .before .before .before .before .before .before in (
+    let c2 = c .before .before in let c4 = c2 .before .before in let start = c4 .before .before .before .before .before .before .before .before .before in
+    let is = indexList (start .args .kind) (now (start .args .list)) (now (start .args .elements)) in (
       omega (arith, c4 .if1 .left),
       λ s h.
-          first-pass (fails s (indexList (start .args .kind) (now (start .args .list)) (now (start .args .elements)))) _ _ (c4 .if1 .left)
+          first-pass (fails s is) _ _ (c4 .if1 .left)
           (ap (λ (k : ℕ). not (eqb k 0))
-          (sym (position-asked s (now (start .args .store)) (indexList (start .args .kind) (now (start .args .list)) (now (start .args .elements))) _ h _ _ (c2 .before .index-at .ensures) _ (c2 .find-element .ensures) _
+          (sym (position-asked s (now (start .args .store)) is _ h _ _ (c2 .before .index-at .ensures) _ (c2 .find-element .ensures) _
           (c .before .location-number .ensures)))
           ∙ rw (eq-eqb _ 0 (c .if2 .left)))
           ∙ c4 .before .loop .inv .1 s h,
@@ -47,16 +48,18 @@ unfolding first
 returns c =
     let c2 = c .before .before in let start = c2 .before .before .before .before .before .before .before in
     let s = (sceneIn (start .args .s) (now (start .args .store)) (now (start .args .guest))) in
-    sym (first-none (fails s (indexList (start .args .kind) (now (start .args .list)) (now (start .args .elements)))) _ _ (c .if1 .taken)) ∙ c .before .loop .inv .1 s (c2 .prepare .ensures)
+    let is = indexList (start .args .kind) (now (start .args .list)) (now (start .args .elements)) in
+    sym (first-none (fails s is) _ _ (c .if1 .taken)) ∙ c .before .loop .inv .1 s (c2 .prepare .ensures)
 
 returns-2 : tie.Need-returns-2 Inv-loop μ-loop
 unfolding first
 returns-2 c =
     let c2 = c .before .before in let c4 = c2 .before .before in let c6 = c4 .before .before in let start = c6 .before .before .before .before .before .before .before in
     let s = (sceneIn (start .args .s) (now (start .args .store)) (now (start .args .guest))) in
-    sym (first-found (fails s (indexList (start .args .kind) (now (start .args .list)) (now (start .args .elements)))) _ _ (c4 .if1 .left)
+    let is = indexList (start .args .kind) (now (start .args .list)) (now (start .args .elements)) in
+    sym (first-found (fails s is) _ _ (c4 .if1 .left)
     (ap (λ (k : ℕ). not (eqb k 0))
-    (sym (position-asked s (now (start .args .store)) (indexList (start .args .kind) (now (start .args .list)) (now (start .args .elements))) _ (c6 .prepare .ensures) _ _ (c2 .before .index-at .ensures) _ (c2 .find-element .ensures) _
+    (sym (position-asked s (now (start .args .store)) is _ (c6 .prepare .ensures) _ _ (c2 .before .index-at .ensures) _ (c2 .find-element .ensures) _
     (c .before .location-number .ensures)))
     ∙ rw (ne-eqb _ 0 (c .if2 .taken))))
     ∙ c4 .before .loop .inv .1 s (c6 .prepare .ensures)

@@ -6,7 +6,7 @@ use native.Mathlib.Omega.{arith}
 use denote.Ref.{now}
 use lib.ListN.{getD}
 use borrow.Author.Needs.{needs}
-use Rattle.number.proofs.LittleEndian.{le-part}
+use Rattle.number.proofs.LittleEndian.{endian-part}
 use Rattle.assembly.proofs.Widths.{width-four}
 use Rattle.assembly.proofs.number_at.Statement.{statement}
 use Rattle.assembly.proofs.number_at.Tie as tie
@@ -27,7 +27,7 @@ returns c =
     let c2 = c .before .before in
     let start = c2 .before in
     rw (c .before .if1 .taken)
-    (le-part 1 (now (start .args .s)) (start .args .at) (omega (arith, start .pre .0, c .before .if1 .taken)) (bytes c2) _
+    (endian-part 1 (now (start .args .s)) (start .args .at) (omega (arith, start .pre .0, c .before .if1 .taken)) (bytes c2) _
     (rw (add-zero (start .args .at)) (omega arith)))
 
 returns-2 : tie.Need-returns-2
@@ -36,7 +36,7 @@ returns-2 c =
     let start = known .before in
     let two = c .before .before .before .if2 .taken in
     rw two
-    (le-part 2 (now (start .args .s)) (start .args .at) (omega (arith, start .pre .0, two)) (bytes known) _ (rw (add-zero (start .args .at)) (c .le16 .ensures)))
+    (endian-part 2 (now (start .args .s)) (start .args .at) (omega (arith, start .pre .0, two)) (bytes known) _ (rw (add-zero (start .args .at)) (c .le16 .ensures)))
 
 shared-slice-read-le32 : tie.Need-shared-slice-read-le32
 shared-slice-read-le32 c = omega (arith, four (c .before))
@@ -56,7 +56,7 @@ returns-3 c =
     let known = rest .before .before in
     let start = known .before in
     rw (four rest)
-    (le-part 4 (now (start .args .s)) (start .args .at) (omega (arith, start .pre .0, four rest)) (bytes known) _ (rw (add-zero (start .args .at)) (c .le32 .ensures)))
+    (endian-part 4 (now (start .args .s)) (start .args .at) (omega (arith, start .pre .0, four rest)) (bytes known) _ (rw (add-zero (start .args .at)) (c .le32 .ensures)))
 
 pub number-at-spec : {M : Type 1} → statement M
 number-at-spec =

@@ -5,7 +5,7 @@ use denote.Ref.{now}
 use lib.Pow.{pow-pos}
 use borrow.Author.Tests.{not-true, not-false}
 use Rattle.fetch.specs.declared.ArrayPointer.{ArrayPointer}
-use Rattle.vertex.specs.Represented.{sceneIn}
+use Rattle.vertex.specs.SceneCode.{sceneIn}
 use Rattle.vertex.specs.Vertex.{elementOf, componentsOr, origin, pairFrom}
 use Rattle.assembly.proofs.Fetching.{own-array, pair-none, pair-off, pair-on}
 use borrow.Author.Needs.{needs}
@@ -18,7 +18,9 @@ has-stage-requires c κs = rw (c .before .before .pre .0) (pow-pos (c .before .b
 returns : tie.Need-returns
 returns c =
     let start = c .before .before .before .before in
-    pair-none (sceneIn (start .args .s) (now (start .args .store)) (now (start .args .guest))) (start .args .index) (start .args .unit) (sym (c .before .has-stage .ensures (start .args .unit) (start .pre .0)) ∙ not-true (c .before .has-stage .result) (c .if1 .taken))
+    let s = sceneIn (start .args .s) (now (start .args .store)) (now (start .args .guest)) in
+    pair-none s (start .args .index) (start .args .unit)
+    (sym (c .before .has-stage .ensures (start .args .unit) (start .pre .0)) ∙ not-true (c .before .has-stage .result) (c .if1 .taken))
 
 returns-2 : tie.Need-returns-2
 returns-2 c =
@@ -29,7 +31,10 @@ returns-2 c =
     (ap (λ (a : ArrayPointer). a .enabled) (sym (start .pre .1 .array)) ∙ not-true (start .args .e .array .enabled) (c .before .before .if2 .taken))
 
 coordinates-requires : tie.Need-coordinates-requires
-coordinates-requires c κs = let start = c .before .before .before .before .before .before .before in own-array (sceneIn (start .args .s) (now (start .args .store)) (now (start .args .guest))) (now (start .args .store)) (start .args .e) (start .pre .1)
+coordinates-requires c κs =
+    let start = c .before .before .before .before .before .before .before in
+    let s = sceneIn (start .args .s) (now (start .args .store)) (now (start .args .guest)) in
+    own-array s (now (start .args .store)) (start .args .e) (start .pre .1)
 
 returns-3 : tie.Need-returns-3
 returns-3 c =

@@ -1,7 +1,7 @@
 -- `assembly::pairs_at` meets its contract, from what the inner functions ensure.
 use mathlib.Core.Path.{refl}
 use denote.Ref.{now}
-use Rattle.vertex.specs.Represented.{sceneIn}
+use Rattle.vertex.specs.SceneCode.{sceneIn}
 use Rattle.assembly.proofs.Fetching.{texcoords-are}
 use borrow.Author.Needs.{needs}
 use Rattle.assembly.proofs.pairs_at.Statement.{statement}
@@ -22,7 +22,8 @@ pair-at-requires-4 c κs = (refl, c .before .before .before .before .before .bef
 returns : tie.Need-returns
 returns c =
     let start = c .before .before .before .before .before .before .before .before .before .before in
-    texcoords-are (sceneIn (start .args .s) (now (start .args .store)) (now (start .args .guest))) (start .args .index) (c .before .before .before .pair-at .ensures) (c .before .before .pair-at2 .ensures) (c .before .pair-at3 .ensures)
+    let s = sceneIn (start .args .s) (now (start .args .store)) (now (start .args .guest)) in
+    texcoords-are s (start .args .index) (c .before .before .before .pair-at .ensures) (c .before .before .pair-at2 .ensures) (c .before .pair-at3 .ensures)
     (c .pair-at4 .ensures)
 
 pub pairs-at-spec : {M : Type 1} → statement M

@@ -2,7 +2,7 @@
 use mathlib.Core.Path.{subst}
 use denote.Ref.{now}
 use Rattle.fetch.specs.declared.ArrayPointer.{ArrayPointer}
-use Rattle.vertex.specs.Represented.{sceneIn}
+use Rattle.vertex.specs.SceneCode.{sceneIn}
 use Rattle.assembly.specs.Elements.{PreparesFor}
 use borrow.Author.Needs.{needs}
 use Rattle.assembly.proofs.plan_of.Statement.{statement}
@@ -10,7 +10,8 @@ use Rattle.assembly.proofs.plan_of.Tie as tie
 
 returns : tie.Need-returns
 returns c =
-    let c2 = c .before .before in let c4 = c2 .before .before in let c6 = c4 .before .before in let c8 = c6 .before .before in let start = c8 .before .before .before .before .before .before in
+    let c2 = c .before .before in let c4 = c2 .before .before in let c6 = c4 .before .before in let c8 = c6 .before .before in
+    let start = c8 .before .before .before .before .before .before in
     let s = (sceneIn (start .args .s) (now (start .args .store)) (now (start .args .guest))) in
     record {
       position = c8 .before .prepare .ensures;

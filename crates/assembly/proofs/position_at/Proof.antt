@@ -3,7 +3,7 @@ use mathlib.Core.Bool.{false}
 use mathlib.Core.Path.{ap, _∙_}
 use denote.Ref.{now}
 use Rattle.fetch.specs.declared.ArrayPointer.{ArrayPointer}
-use Rattle.vertex.specs.Represented.{sceneIn}
+use Rattle.vertex.specs.SceneCode.{sceneIn}
 use Rattle.vertex.specs.Vertex.{elementOf}
 use Rattle.assembly.proofs.Fetching.{own-array, position-from}
 use borrow.Author.Needs.{needs}
@@ -11,7 +11,10 @@ use Rattle.assembly.proofs.position_at.Statement.{statement}
 use Rattle.assembly.proofs.position_at.Tie as tie
 
 fetch-position-requires : tie.Need-fetch-position-requires
-fetch-position-requires c κs = let start = c .before .before in own-array (sceneIn (start .args .s) (now (start .args .store)) (now (start .args .guest))) (now (start .args .store)) (start .args .e) (start .pre)
+fetch-position-requires c κs =
+    let start = c .before .before in
+    let s = sceneIn (start .args .s) (now (start .args .store)) (now (start .args .guest)) in
+    own-array s (now (start .args .store)) (start .args .e) (start .pre)
 
 returns : tie.Need-returns
 returns c =

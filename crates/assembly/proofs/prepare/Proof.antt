@@ -6,7 +6,7 @@ use denote.Ref.{now}
 use borrow.Author.Tests.{not-true, not-false}
 use Rattle.buffers.specs.Objects.{contentsOf}
 use Rattle.fetch.specs.Fetch.{partOf}
-use Rattle.fetch.specs.Places.{partSource}
+use Rattle.fetch.specs.FetchCode.{partSource}
 use Rattle.assembly.specs.Elements.{Prepares}
 use Rattle.assembly.specs.declared.Failure.{Failure}
 use Rattle.assembly.proofs.Addresses.{below}
@@ -62,7 +62,8 @@ returns-3 c =
 
 returns-4 : tie.Need-returns-4
 returns-4 c =
-    let c3 = c .before .before .before in let c5 = c3 .before .before in let c7 = c5 .before .before in let c10 = c7 .before .before .before in let args = c10 .before .before .before .args in
+    let c3 = c .before .before .before in let c5 = c3 .before .before in let c7 = c5 .before .before in let c10 = c7 .before .before .before in
+    let args = c10 .before .before .before .args in
     let width = c7 .before .before .component-bytes .result in
     subst (Prepares (contentsOf (args .b .slots) (now (args .store))) (args .base) (now (args .store)) (now (args .guest)) (args .array))
     (sym (c .without-elements4 .ensures
@@ -76,7 +77,8 @@ cast-t20 c = omega (arith, covered (c .before .before .before .before .before .b
 
 returns-5 : tie.Need-returns-5
 returns-5 c =
-    let c2 = c .before .before in let c4 = c2 .before .before in let c6 = c4 .before .before in let c8 = c6 .before .before in let c11 = c8 .before .before .before in let args = c11 .before .before .before .args in
+    let c2 = c .before .before in let c4 = c2 .before .before in let c6 = c4 .before .before in let c8 = c6 .before .before in
+    let c11 = c8 .before .before .before in let args = c11 .before .before .before .args in
     let width = c8 .before .before .component-bytes .result in
     let x = c11 .find-extent .result in
     subst (λ (k : ℕ). Prepares (contentsOf (args .b .slots) (now (args .store))) (args .base) (now (args .store)) (now (args .guest)) (args .array)

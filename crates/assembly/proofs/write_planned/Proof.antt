@@ -9,7 +9,7 @@ use lib.Seq.{sets, length-sets}
 use Rattle.corners.specs.declared.Primitive.{Primitive}
 use Rattle.vertex.specs.Scene.{Scene}
 use Rattle.vertex.specs.Vertex.{vertexWords, vertexOf}
-use Rattle.vertex.specs.Represented.{sceneIn, indexList}
+use Rattle.vertex.specs.SceneCode.{sceneIn, indexList}
 use Rattle.vertex.specs.declared.Vertex.{Vertex}
 use Rattle.assembly.specs.Corners.{cornerIndex, cornerWords}
 use Rattle.assembly.proofs.Written.{sets-then, length-corners, corners-more}
@@ -33,21 +33,27 @@ unfolding cornerWords
 loop-holds c = (search needs, refl)
 
 corner-index-requires : tie.Need-corner-index-requires Inv-loop μ-loop
-corner-index-requires c κs = let start = c .before .before .before .before .before .before .before in omega (arith, start .good .1 .1 .1 .1 .1 .1 .1 .1 .1 .0, c .loop-test .taken, start .pre .0)
+corner-index-requires c κs =
+    let start = c .before .before .before .before .before .before .before in
+    omega (arith, start .good .1 .1 .1 .1 .1 .1 .1 .1 .1 .0, c .loop-test .taken, start .pre .0)
 
 assemble-requires : tie.Need-assemble-requires Inv-loop μ-loop
 assemble-requires c κs = c .before .before .before .before .before .before .before .before .pre .1
 
 mul-write-vertex : tie.Need-mul-write-vertex Inv-loop μ-loop
 mul-write-vertex c =
-    let c3 = c .before .before .before in let start = c3 .before .before .before .before .before .before .before in omega (arith, start .good .1 .1 .1 .1 .1 .1 .1 .1 .1 .0, c3 .loop-test .taken, start .pre .0)
+    let c3 = c .before .before .before in let start = c3 .before .before .before .before .before .before .before in
+    omega (arith, start .good .1 .1 .1 .1 .1 .1 .1 .1 .1 .0, c3 .loop-test .taken, start .pre .0)
 
 write-vertex-requires : tie.Need-write-vertex-requires Inv-loop μ-loop
 write-vertex-requires c κs =
-    let c3 = c .before .before .before in let start = c3 .before .before .before .before .before .before .before in omega (arith, c3 .loop-test .taken, start .pre .0, simp length-sets at (ap length (c3 .before .loop .inv .1)))
+    let c3 = c .before .before .before in let start = c3 .before .before .before .before .before .before .before in
+    omega (arith, c3 .loop-test .taken, start .pre .0, simp length-sets at (ap length (c3 .before .loop .inv .1)))
 
 add-c : tie.Need-add-c Inv-loop μ-loop
-add-c c = let c6 = c .before .before .before .before .before .before in let start = c6 .before .before .before .before .before .before .before in omega (arith, start .good .1 .1 .1 .1 .1 .1 .1 .1 .1 .0, c6 .loop-test .taken, start .pre .0)
+add-c c =
+    let c6 = c .before .before .before .before .before .before in let start = c6 .before .before .before .before .before .before .before in
+    omega (arith, start .good .1 .1 .1 .1 .1 .1 .1 .1 .1 .0, c6 .loop-test .taken, start .pre .0)
 
 loop-less : tie.Need-loop-less Inv-loop μ-loop
 loop-less c = omega (arith, c .before .before .before .before .before .before .loop-test .taken)

@@ -4,7 +4,7 @@ use native.Mathlib.Omega.{arith}
 use borrow.Author.Needs.{needs}
 use borrow.Author.Tests.{lt-ltb, eq-eqb, ne-eqb, not-true, not-false}
 use denote.Ref.{now}
-use Rattle.buffers.specs.Objects.{objects, boundAt, Sound, bufferData}
+use Rattle.buffers.specs.Objects.{objects, boundAt, Sound, dataAnswer}
 use Rattle.buffers.proofs.Uploads.{in-invalid, in-same, bound-slot, data-done}
 use Rattle.buffers.proofs.buffer_data.Statement.{statement}
 use Rattle.buffers.proofs.buffer_data.Tie as tie
@@ -31,24 +31,24 @@ returns-2 : tie.Need-returns-2
 returns-2 c = in-invalid _ _ _ (λ s. c .if2 .taken)
 
 returns-3 : tie.Need-returns-3
-unfolding bufferData
+unfolding dataAnswer
 returns-3 c =
     let c2 = c .before .before in
-    in-same _ _ _ (valid (c2 .before)) (c2 .if2 .left) 0x0500 (simp (bufferData, sym (c .before .is-target .ensures) ∙ not-true _ (c .if3 .taken)))
+    in-same _ _ _ (valid (c2 .before)) (c2 .if2 .left) 0x0500 (simp (dataAnswer, sym (c .before .is-target .ensures) ∙ not-true _ (c .if3 .taken)))
 
 returns-4 : tie.Need-returns-4
-unfolding bufferData
+unfolding dataAnswer
 returns-4 c =
     let c2 = c .before .before in let c4 = c2 .before .before in
     in-same _ _ _ (valid (c4 .before)) (c4 .if2 .left) 0x0502
-    (simp (bufferData, sym (c2 .before .is-target .ensures) ∙ not-false _ (c2 .if3 .left), sym (bound (c .before)), eq-eqb _ _ (c .if4 .taken)))
+    (simp (dataAnswer, sym (c2 .before .is-target .ensures) ∙ not-false _ (c2 .if3 .left), sym (bound (c .before)), eq-eqb _ _ (c .if4 .taken)))
 
 returns-5 : tie.Need-returns-5
-unfolding bufferData
+unfolding dataAnswer
 returns-5 c =
     let c2 = c .before .before in let c4 = c2 .before .before in let c6 = c4 .before .before in
     in-same _ _ _ (valid c6) (c4 .before .if2 .left) 6 (simp (
-      bufferData,
+      dataAnswer,
       sym (c4 .is-target .ensures) ∙ not-false _ (c2 .before .if3 .left),
       sym (bound c2),
       ne-eqb _ _ (c .before .if4 .left),

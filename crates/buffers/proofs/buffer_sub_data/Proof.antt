@@ -5,7 +5,7 @@ use borrow.Author.Needs.{needs}
 use borrow.Author.Tests.{eq-eqb, not-true, not-false}
 use lib.ListN.{length}
 use denote.Ref.{now}
-use Rattle.buffers.specs.Objects.{objects, boundAt, Sound, bufferSubData}
+use Rattle.buffers.specs.Objects.{objects, boundAt, Sound, subDataAnswer}
 use Rattle.buffers.proofs.Uploads.{in-invalid, in-same, bound-slot, slot-small, sub-short, sub-done}
 use Rattle.buffers.proofs.buffer_sub_data.Statement.{statement}
 use Rattle.buffers.proofs.buffer_sub_data.Tie as tie
@@ -46,8 +46,8 @@ returns-2 : tie.Need-returns-2
 returns-2 c = in-invalid _ _ _ (λ s. c .if2 .taken)
 
 returns-3 : tie.Need-returns-3
-unfolding bufferSubData
-returns-3 c = in-same _ _ _ (valid (c .before .before .before)) (c .before .before .if2 .left) 0x0502 (simp (bufferSubData, sym (bound (c .before)), eq-eqb _ _ (c .if3 .taken)))
+unfolding subDataAnswer
+returns-3 c = in-same _ _ _ (valid (c .before .before .before)) (c .before .before .if2 .left) 0x0502 (simp (subDataAnswer, sym (bound (c .before)), eq-eqb _ _ (c .if3 .taken)))
 
 returns-4 : tie.Need-returns-4
 returns-4 c =

@@ -1,3 +1,4 @@
+use mathlib.Core.Path.{refl}
 use lib.ListN.{length-map}
 use Rattle.buffers.proofs.Removal.{skip-zero, skip-unknown, deleted}
 use borrow.Author.Needs.{needs}
@@ -13,7 +14,7 @@ returns-2 c = skip-unknown _ _ (c .before .before .before .pre) (c .before .befo
 returns-3 : tie.Need-returns-3
 returns-3 c =
     let c2 = c .before .before in let c4 = c2 .before .before in
-    deleted _ _ (c4 .before .pre) (c4 .if1 .left) _ (c2 .before .find-slot .ensures) (rw length-map at (c4 .before .good .0 .1 .1 .0 .1 .0 .1)) (c2 .if2 .left) _ _
+    deleted _ _ (c4 .before .pre) (c4 .if1 .left) _ (c2 .before .find-slot .ensures) (rw length-map at (c4 .before .good .0 .1 .1 .0 .1 .0 .1)) (c2 .if2 .left) _ refl _ _
     (c .before .cleared .ensures) (c .cleared2 .ensures)
 
 pub delete-name-spec : {M : Type 1} → statement M

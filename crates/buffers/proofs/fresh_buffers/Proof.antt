@@ -31,6 +31,7 @@ returns c =
         element-live = inl refl;
       };
       state = λ s i. record { next = 1; contents = fun-ext (nothing s) i; array = 0; element = 0 };
+      lengths = λ k h. ap (λ (x : Slot). x .len) (getD-replicate 16 k freeSlot freeSlot h);
     }
 
 pub fresh-buffers-spec : {M : Type 1} → statement M

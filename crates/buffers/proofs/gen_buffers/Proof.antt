@@ -1,14 +1,14 @@
 -- `gen_buffers` meets its contract: `left` of the n names are still to be made.
 use Prim.Native.Nat.{ℕ, _+_, _≤_}
 use mathlib.Core.List.{List}
-use mathlib.Core.Logic.{inl}
 use mathlib.Core.Path.{_≡_, refl, ap, _∙_}
 use native.Mathlib.Omega.{arith}
 use borrow.Author.Needs.{needs}
 use borrow.Author.Tests.{not-true, not-false, lt-ltb, le-ltb}
-use Rattle.buffers.specs.Objects.{objects, Sound, Answers, liveNames, genBuffers, answer}
+use Rattle.buffers.specs.Objects.{objects, Sound, Answers, liveNames, genAnswer, answer}
 use Rattle.buffers.proofs.Laws.{live-law}
-use Rattle.buffers.proofs.Binding.{answers-unsound, answers-same, answers-moved}
+use Rattle.buffers.proofs.Binding.{answers-unsound, answers-same, answers-done}
+use Rattle.buffers.proofs.Free.{filled-same, filled-free}
 use Rattle.buffers.proofs.Generation.{Left, left-less, left-none, gen-full, gen-past, gen-done}
 use Rattle.buffers.proofs.gen_buffers.Statement.{statement}
 use Rattle.buffers.proofs.gen_buffers.Tie as tie
@@ -48,7 +48,7 @@ returns-4 c =
     record { answers = answers-same _ _ (valid c5) 5 (λ s. gen-past _ _ (few c2 s) (c .if4 .taken)); names = refl }
 
 loop-holds : tie.Need-loop-holds Inv-loop μ-loop
-loop-holds c = record { state = λ s. refl; sound = valid (c .before .before .before .before .before); live = few (c .before .before); next = c .if4 .left }
+loop-holds c = record { state = λ s. refl; sound = valid (c .before .before .before .before .before); live = few (c .before .before); next = c .if4 .left; slots = filled-same }
 
 make-name-requires : tie.Need-make-name-requires Inv-loop μ-loop
 make-name-requires c κs = (c .before .loop .inv .sound, omega (arith, c .before .loop .inv .next))
@@ -61,11 +61,11 @@ loop-again c = left-less _ _ _ _ (c .before .before .before .loop .inv) (c .befo
 
 done : (c : tie.After-loop Inv-loop μ-loop) →
     let args = c .before .before .before .before .before .before .before .before .before .args in
-    Answers (args .b) (λ o. genBuffers o (args .n)) 0 (c .before .loop .out)
+    Answers (args .b) (λ o. genAnswer o (args .n)) 0 (c .before .loop .out)
 done c =
-    answers-moved _ _ (valid (c .before .before .before .before .before .before .before)) 0 _ (inl refl)
+    answers-done _ _ (valid (c .before .before .before .before .before .before .before)) _
     (λ s. ap (answer 0) (left-none _ _ _ _ (c .before .loop .inv) (omega arith) s) ∙ gen-done _ _ (few (c .before .before .before .before) s) (c .before .before .if4 .left))
-    (c .before .loop .inv .sound)
+    (c .before .loop .inv .sound) (filled-free (c .before .loop .inv .slots))
 
 returns-5 : tie.Need-returns-5 Inv-loop μ-loop
 returns-5 c =

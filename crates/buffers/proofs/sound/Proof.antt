@@ -6,7 +6,7 @@ use borrow.Author.Needs.{needs}
 use borrow.Author.Tests.{not-true, not-false}
 use borrow.Author.Count.{below-more}
 use lib.ListN.{length, length-map}
-use Rattle.buffers.specs.Objects.{SlotSound}
+use Rattle.buffers.specs.ObjectsCode.{SlotSound}
 use Rattle.buffers.proofs.Deciding.{slot-facts, sound-facts, sound-fails}
 use Rattle.buffers.proofs.sound.Statement.{statement}
 use Rattle.buffers.proofs.sound.Tie as tie

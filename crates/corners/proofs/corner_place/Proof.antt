@@ -3,7 +3,8 @@ use Prim.Native.Nat.{ℕ, _/_, _<_}
 use mathlib.Core.Path.{_≡_, ap, _∙_}
 use native.Mathlib.Omega.{arith}
 use borrow.Author.Tests.{lt-ltb, le-ltb, eq-eqb, ne-eqb}
-use Rattle.corners.specs.Places.{reach, cornersOf, cornersIn}
+use Rattle.corners.specs.Places.{cornersOf}
+use Rattle.corners.specs.PlacesCode.{reach, cornersIn}
 use Rattle.corners.specs.declared.Primitive.{Primitive}
 use Rattle.corners.specs.declared.Corners.{Corners}
 use Rattle.corners.proofs.Places.{list-place}

@@ -4,8 +4,8 @@ use native.Mathlib.Omega.{arith}
 use denote.Ref.{now}
 use lib.ListN.{length}
 use lib.Seq.{sets}
-use Rattle.vertex.specs.Represented.{sceneIn}
-use Rattle.vertex.specs.Represented.{indexList}
+use Rattle.vertex.specs.SceneCode.{sceneIn}
+use Rattle.vertex.specs.SceneCode.{indexList}
 use Rattle.draw.specs.Triangles.{wordsOf}
 use Rattle.draw.specs.Draw.{trianglesOf}
 use Rattle.draw.proofs.Drawing.{triangles-are, refused-draw, no-room, drawn}

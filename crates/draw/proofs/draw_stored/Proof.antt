@@ -2,7 +2,7 @@
 use native.Mathlib.Omega.{arith}
 use mathlib.Core.Path.{sym, _∙_}
 use denote.Ref.{now}
-use Rattle.vertex.specs.Represented.{sceneIn}
+use Rattle.vertex.specs.SceneCode.{sceneIn}
 use Rattle.vertex.proofs.Sources.{view-refuses, view-passes, product-fits, stored-refused, stored-none, stored-some, width-there, stored-indices}
 use Rattle.draw.proofs.Drawing.{draw-refused, draw-by-list, empty-draw}
 use borrow.Author.Needs.{needs}

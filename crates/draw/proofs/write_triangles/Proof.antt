@@ -6,7 +6,7 @@ use denote.Ref.{now}
 use borrow.Author.Tests.{le-leb}
 use lib.ListN.{length}
 use lib.Seq.{sets}
-use Rattle.vertex.specs.Represented.{sceneIn, indexList}
+use Rattle.vertex.specs.SceneCode.{sceneIn, indexList}
 use Rattle.draw.specs.Draw.{vertexAt}
 use Rattle.draw.proofs.CornerLists.{corner-words}
 use borrow.Author.Needs.{needs}

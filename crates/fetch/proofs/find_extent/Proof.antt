@@ -1,7 +1,7 @@
 -- `fetch::find_extent` meets its contract: each way out is a case of the extent.
 use mathlib.Core.Path.{sym}
 use borrow.Author.Tests.{eq-eqb, ne-eqb, lt-ltb, le-ltb}
-use Rattle.fetch.specs.Places.{extentOf}
+use Rattle.fetch.specs.FetchCode.{extentOf}
 use borrow.Author.Needs.{needs}
 use Rattle.fetch.proofs.find_extent.Statement.{statement}
 use Rattle.fetch.proofs.find_extent.Tie as tie

@@ -12,7 +12,7 @@ returns-2 : tie.Need-returns-2
 returns-2 c =
     let c3 = c .before .before .before in let c5 = c3 .before .before in let c7 = c5 .before .before in
     rw (c .answer-draw .ensures)
-    (draw-from _ _ _ _ _ _ _ _ _ _ _ (c5 .scene .ensures) (c7 .is-ready .ensures .yes (not-false _ (c5 .before .if1 .left))) (c3 .draw-list .ensures _))
+    (draw-from _ _ _ _ _ _ _ _ _ _ _ (c5 .draw-inputs .ensures) (c7 .is-ready .ensures .yes (not-false _ (c5 .before .if1 .left))) (c3 .draw-list .ensures _))
 
 pub draw-elements-spec : {M : Type 1} → statement M
 draw-elements-spec =

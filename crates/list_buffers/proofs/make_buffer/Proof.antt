@@ -5,7 +5,7 @@ use Rattle.list_buffers.proofs.Answers.{answers-is, replied-is}
 use mathlib.Core.Path.{refl, sym, ap, _∙_}
 use lib.Dec.{lit<}
 use Rattle.list_records.specs.Encoding.{bufferRows, bufferOf}
-use Rattle.context.specs.Calls.{gen, bind}
+use Rattle.context.specs.Calls.{genBuffers, bindBuffer}
 use Rattle.list_buffers.proofs.make_buffer.Statement.{statement}
 use Rattle.list_buffers.proofs.make_buffer.Tie as tie
 
@@ -19,7 +19,7 @@ returns c =
     let arm = c .before .before .match .keys1 in
     let long-at = c .before .long-at .ensures in
     let made = c .make-gen .ensures in
-    answers-is (ap gen long-at ∙ (λ i. bufferOf (a .bytes .now) (sym arm i) (a .w .now))) ((made .0, made .1 .does _), made .1 .value-is)
+    answers-is (ap genBuffers long-at ∙ (λ i. bufferOf (a .bytes .now) (sym arm i) (a .w .now))) ((made .0, made .1 .does _), made .1 .value-is)
 
 returns-2 : tie.Need-returns-2
 unfolding bufferOf
@@ -28,7 +28,7 @@ returns-2 c =
     let arm = c .before .before .before .before .match .keys2 in
     let word-at = c .before .before .before .word-at .ensures in
     let word-at2 = c .before .before .word-at2 .ensures in
-    answers-is ((λ i. bind (word-at i) (word-at2 i)) ∙ (λ i. bufferOf (a .bytes .now) (sym arm i) (a .w .now)))
+    answers-is ((λ i. bindBuffer (word-at i) (word-at2 i)) ∙ (λ i. bufferOf (a .bytes .now) (sym arm i) (a .w .now)))
     (replied-is (c .replied .ensures) (c .before .bind-buffer .ensures _) refl)
 
 returns-3 : tie.Need-returns-3

@@ -1,12 +1,12 @@
 -- `pipeline::set_blend_func` meets its contract: each arm is the case of the two tables' answers.
 use mathlib.Core.Option.{bind}
-use Rattle.pipeline.specs.Pipeline.{accepted, pipelineStep}
+use Rattle.pipeline.specs.Pipeline.{acceptedPipeline, pipelineStep}
 use borrow.Author.Needs.{needs}
 use Rattle.pipeline.proofs.set_blend_func.Statement.{statement}
 use Rattle.pipeline.proofs.set_blend_func.Tie as tie
 
 returns : tie.Need-returns
-unfolding pipelineStep accepted bind
+unfolding pipelineStep acceptedPipeline bind
 returns c =
     let at-from = c .before .before .before .before .before in
     rw (
@@ -18,7 +18,7 @@ returns c =
     )
 
 returns-2 : tie.Need-returns-2
-unfolding pipelineStep accepted bind
+unfolding pipelineStep acceptedPipeline bind
 returns-2 c =
     let at-from = c .before .before .before .before in
     rw (
@@ -30,7 +30,7 @@ returns-2 c =
     )
 
 returns-3 : tie.Need-returns-3
-unfolding pipelineStep accepted bind
+unfolding pipelineStep acceptedPipeline bind
 returns-3 c = rw (c .refuse2 .ensures, ← c .before .before .before .before .blend-factor .ensures, c .before .enum-told2 .given .1)
 
 pub set-blend-func-spec : {M : Type 1} → statement M

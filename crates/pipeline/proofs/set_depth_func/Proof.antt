@@ -1,15 +1,15 @@
 -- `pipeline::set_depth_func` meets its contract: each arm is the case of the table's answer.
-use Rattle.pipeline.specs.Pipeline.{accepted, pipelineStep}
+use Rattle.pipeline.specs.Pipeline.{acceptedPipeline, pipelineStep}
 use borrow.Author.Needs.{needs}
 use Rattle.pipeline.proofs.set_depth_func.Statement.{statement}
 use Rattle.pipeline.proofs.set_depth_func.Tie as tie
 
 returns : tie.Need-returns
-unfolding pipelineStep accepted
+unfolding pipelineStep acceptedPipeline
 returns c = rw (c .accept .ensures, ← c .before .before .before .before .compare-func .ensures, c .before .before .found .given .1)
 
 returns-2 : tie.Need-returns-2
-unfolding pipelineStep accepted
+unfolding pipelineStep acceptedPipeline
 returns-2 c = rw (c .refuse .ensures, ← c .before .before .before .compare-func .ensures, c .before .enum-told .given .1)
 
 pub set-depth-func-spec : {M : Type 1} → statement M

@@ -1,17 +1,17 @@
 -- `pipeline::tex_env` meets its contract: each return is the case that its tests say.
 use mathlib.Core.Option.{bind}
 use borrow.Author.Tests.{eq-eqb, ne-eqb}
-use Rattle.pipeline.specs.Pipeline.{accepted, pipelineStep}
+use Rattle.pipeline.specs.Pipeline.{acceptedPipeline, pipelineStep}
 use borrow.Author.Needs.{needs}
 use Rattle.pipeline.proofs.tex_env.Statement.{statement}
 use Rattle.pipeline.proofs.tex_env.Tie as tie
 
 returns : tie.Need-returns
-unfolding pipelineStep accepted
+unfolding pipelineStep acceptedPipeline
 returns c = rw (c .accept .ensures, ne-eqb _ 0x2200 (c .before .if1 .taken))
 
 returns-2 : tie.Need-returns-2
-unfolding pipelineStep accepted bind
+unfolding pipelineStep acceptedPipeline bind
 returns-2 c =
     let at-found = c .before .before .before .before in
     rw (
@@ -23,7 +23,7 @@ returns-2 c =
     )
 
 returns-3 : tie.Need-returns-3
-unfolding pipelineStep accepted bind
+unfolding pipelineStep acceptedPipeline bind
 returns-3 c =
     let c3 = c .before .before .before in
     rw (c .refuse .ensures, eq-eqb _ 0x2200 (c3 .before .if1 .left), ← c3 .tex-env-mode .ensures, c .before .enum-told .given .1)

@@ -2,7 +2,7 @@
 use mathlib.Core.Path.{sym, ap}
 use denote.Ref.{now}
 use Rattle.number.proofs.Tables.{last-row}
-use Rattle.trace_driver.specs.Settings.{bytesOf, storeRows, storeAfter, guestRows, guestAfter}
+use Rattle.trace_driver.specs.Settings.{pageBytes, storeRows, storeAfter, guestRows, guestAfter}
 use borrow.Author.Needs.{needs}
 use Rattle.trace_driver.proofs.fill_areas.Statement.{statement}
 use Rattle.trace_driver.proofs.fill_areas.Tie as tie
@@ -21,7 +21,7 @@ returns-2 c =
     let word-at2 = c .before .before .before .before .before .before .word-at2 .ensures in
     let arm = c .before .before .before .before .before .match .keys2 in
     let bytes-at = c .before .before .before .bytes-at .ensures in
-    (rw (arm, sym word-at, sym word-at2, sym bytes-at) (ap bytesOf (c .before .before .put .ensures .1)), rw arm)
+    (rw (arm, sym word-at, sym word-at2, sym bytes-at) (ap pageBytes (c .before .before .put .ensures .1)), rw arm)
 
 returns-3 : tie.Need-returns-3
 unfolding storeAfter guestAfter
@@ -29,7 +29,7 @@ returns-3 c =
     let word-at2 = c .before .before .before .before .before .before .word-at2 .ensures in
     let arm = c .before .before .before .before .before .match .keys3 in
     let bytes-at2 = c .before .before .before .bytes-at2 .ensures in
-    (rw arm, rw (arm, sym word-at2, sym bytes-at2) (ap bytesOf (c .before .before .put2 .ensures .1)))
+    (rw arm, rw (arm, sym word-at2, sym bytes-at2) (ap pageBytes (c .before .before .put2 .ensures .1)))
 
 returns-4 : tie.Need-returns-4
 unfolding storeAfter guestAfter

@@ -5,7 +5,7 @@ use native.Mathlib.Omega.{arith}
 use mathlib.Core.List.{append-nil}
 use lib.ListN.{replicate}
 use denote.Ref.{now}
-use Rattle.stack.specs.Stack.{limit, none}
+use Rattle.stack.specs.Stack.{limit, noMatrix}
 use Rattle.trace_format.specs.Fill.{tabulate}
 use Rattle.trace_format.proofs.Filling.{filledTo, fill-step}
 use Rattle.trace_driver.specs.Stacks.{savedAt}
@@ -51,7 +51,7 @@ loop-again c =
     let a = c .before .before .before .before .before .args in
     let matrix-at = c .before .before .before .matrix-at .result in
     let loop = c .before .before .loop in
-    (omega arith, fill-step (savedAt (now (a .w))) (loop .k) (replicate limit matrix-at) none (c .before .loop-test .taken) (loop .inv .1) (c .matrix-at2 .ensures))
+    (omega arith, fill-step (savedAt (now (a .w))) (loop .k) (replicate limit matrix-at) noMatrix (c .before .loop-test .taken) (loop .inv .1) (c .matrix-at2 .ensures))
 
 word-at-requires : tie.Need-word-at-requires Inv-loop μ-loop
 word-at-requires c κs = tt

@@ -2,7 +2,7 @@
 use mathlib.Core.Path.{_≡_, refl, sym, ap, _∙_}
 use Rattle.buffers.specs.declared.Buffers.{Buffers}
 use Rattle.number.proofs.Tables.{last-row}
-use Rattle.trace_unsound.specs.Kinds.{BuffersMade, bufferRows, buffersMade}
+use Rattle.trace_unsound.specs.Kinds.{BuffersMade, unsoundBufferRows, buffersMade}
 use borrow.Author.Needs.{needs}
 use Rattle.trace_unsound.proofs.unsound_buffers.Statement.{statement}
 use Rattle.trace_unsound.proofs.unsound_buffers.Tie as tie
@@ -51,7 +51,7 @@ unfolding buffersMade
 returns-6 c =
     let a = c .before .before .before .before .args in
     let next-live = c .before .before .before .next-live .ensures in
-    record { slot-of-least = _; least = next-live; last = _; greatest = c .before .last-name .ensures; result = last-row (bufferRows _ _ (a .b)) _ _ (c .match .rest) }
+    record { slot-of-least = _; least = next-live; last = _; greatest = c .before .last-name .ensures; result = last-row (unsoundBufferRows _ _ (a .b)) _ _ (c .match .rest) }
 
 pub unsound-buffers-spec : {M : Type 1} → statement M
 unsound-buffers-spec =

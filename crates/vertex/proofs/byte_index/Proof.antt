@@ -3,7 +3,7 @@ use mathlib.Core.Path.{sym, _∙_}
 use native.Mathlib.Nat.{add-zero}
 use native.Mathlib.Omega.{arith}
 use denote.Ref.{now}
-use Rattle.number.proofs.LittleEndian.{le-part}
+use Rattle.number.proofs.LittleEndian.{endian-part}
 use Rattle.vertex.proofs.IndexLists.{numbers-in, numbers-out}
 use borrow.Author.Needs.{needs}
 use Rattle.vertex.proofs.byte_index.Statement.{statement}
@@ -16,7 +16,7 @@ returns : tie.Need-returns
 returns c =
     let args = c .before .before .args in
     let bs = now (args .elements) in
-    le-part 1 bs (args .i) (omega (arith, c .before .if1 .taken)) (λ i. omega (arith, c .shared-slice-known .given i)) _
+    endian-part 1 bs (args .i) (omega (arith, c .before .if1 .taken)) (λ i. omega (arith, c .shared-slice-known .given i)) _
     (rw (add-zero (args .i)) (omega arith)) .0
     ∙ sym (numbers-in 1 _ bs (args .i) (args .i) (omega arith) (c .before .if1 .taken))
 

@@ -4,7 +4,7 @@ use Prim.Native.Nat.{_*_}
 use native.Mathlib.Nat.{add-zero}
 use native.Mathlib.Omega.{arith}
 use denote.Ref.{now}
-use Rattle.number.proofs.LittleEndian.{le-part}
+use Rattle.number.proofs.LittleEndian.{endian-part}
 use Rattle.vertex.proofs.IndexLists.{numbers-in, numbers-out}
 use borrow.Author.Needs.{needs}
 use Rattle.vertex.proofs.short_index.Statement.{statement}
@@ -15,7 +15,7 @@ returns c =
     let c3 = c .before .before .before in
     let start = c3 .before .before in
     let bs = now (start .args .elements) in
-    le-part 2 bs (2 * start .args .i) (omega (arith, c3 .if1 .taken)) (λ i. omega (arith, c3 .before .shared-slice-known .given i)) _
+    endian-part 2 bs (2 * start .args .i) (omega (arith, c3 .if1 .taken)) (λ i. omega (arith, c3 .before .shared-slice-known .given i)) _
     (rw (add-zero (2 * start .args .i)) (c .le16 .ensures)) .0
     ∙ sym (numbers-in 2 _ bs (start .args .i) (2 * start .args .i) (omega arith) (c3 .if1 .taken))
 

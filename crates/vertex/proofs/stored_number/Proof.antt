@@ -1,7 +1,7 @@
 -- `vertex::stored_number` meets its contract: the questions in their order.
 use native.Mathlib.Omega.{arith}
 use denote.Ref.{now}
-use Rattle.vertex.specs.Represented.{sceneIn}
+use Rattle.vertex.specs.SceneCode.{sceneIn}
 use mathlib.Core.Path.{ap, _∙_}
 use Rattle.vertex.specs.Questions.{partNumber}
 use Rattle.vertex.proofs.Sources.{widths, product-fits, quotient-not-less, no-type, part-asked}

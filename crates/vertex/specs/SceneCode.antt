@@ -6,10 +6,10 @@ use Rattle.buffers.specs.Objects.{contentsOf}
 use Rattle.vertex.specs.Scene.{Scene}
 use Rattle.vertex.specs.Index.{upFrom, numbers}
 use Rattle.vertex.specs.declared.Indices.{Indices}
-use Rattle.vertex.specs.declared.Scene as Code
+use Rattle.vertex.specs.declared.DrawInputs.{DrawInputs}
 
 -- the scene of the code's record, over the bytes of store and guest
-abbrev pub sceneIn : Code.Scene → List ℕ → List ℕ → Scene
+abbrev pub sceneIn : DrawInputs → List ℕ → List ℕ → Scene
 sceneIn s store guest =
     record {
       transform = s .transform;
