@@ -6,13 +6,14 @@ use mathlib.Core.Option.{Option}
 use mathlib.Core.Path.{_≡_}
 use Prim.Native.Nat.{ℕ, _+_, _-_, _*_, _<_, _≤_}
 use lib.Dec.{eqb, ltb}
-use lib.ListN.{length, getD, take, drop}
+use lib.ListN.{length, take, drop}
 use Rattle.fetch.specs.Decode.{componentBytes, vectorOf}
-use Rattle.fetch.specs.Fetch.{freshArray, lastAddress, elementBytes, fetched}
+use Rattle.fetch.specs.Fetch.{lastAddress, elementBytes, fetched}
 use Rattle.fetch.specs.FetchCode.{partSource}
 use Rattle.fetch.specs.declared.ArrayPointer.{ArrayPointer}
 use Rattle.fetch.specs.declared.Fetched.{Fetched}
 use Rattle.vertex.specs.Scene.{Scene}
+use Rattle.vertex.specs.Vertex.{unitArray}
 use Rattle.assembly.specs.declared.Failure.{Failure}
 use Rattle.assembly.specs.declared.Location.{Location}
 use Rattle.assembly.specs.declared.Plan.{Plan}
@@ -62,10 +63,6 @@ pub record Prepares (contents : ℕ → Option (List ℕ)) (base : ℕ) (store g
 
 abbrev pub PreparesFor : Scene → List ℕ → ArrayPointer → Prepared → Type 0
 PreparesFor s store a e = Prepares (s .contents) (s .base) store (s .guest) a e
-
--- the array of a unit
-abbrev pub unitArray : Scene → ℕ → ArrayPointer
-unitArray s unit = getD (s .arrays .texcoord) unit freshArray
 
 -- all arrays of a scene are prepared
 pub record Plans (s : Scene) (store : List ℕ) (p : Plan) : Type 0 where

@@ -23,9 +23,9 @@ ghost use Rattle.fetch.specs.Fetch.{lastAddress, positionNumber};
 ghost use Rattle.fetch.specs.FetchCode.{partSource};
 ghost use Rattle.vertex.specs.SceneCode.{sceneIn, indexList};
 ghost use Rattle.vertex.specs.Vertex.{elementOf, objectPosition, colorOf, componentsOr, origin, hasStage, pairFrom, transformedPair};
-ghost use Rattle.vertex.specs.Vertex.{pairOf, pairWords, texcoordsOf, vertexOf, four, vertexWords};
+ghost use Rattle.vertex.specs.Vertex.{unitArray, pairOf, pairWords, texcoordsOf, vertexOf, four, vertexWords};
 ghost use Rattle.vertex.specs.Questions.{positionAt, fails, hasVertices, listNumber};
-ghost use Rattle.assembly.specs.Elements.{OneTwoFour, stepOf, missingAt, locationOf, Locates, Prepares, PreparesFor, unitArray, Plans};
+ghost use Rattle.assembly.specs.Elements.{OneTwoFour, stepOf, missingAt, locationOf, Locates, Prepares, PreparesFor, Plans};
 ghost use Rattle.assembly.specs.Corners.{cornerIndex, cornersWritten, cornerWords};
 
 // Bytes of a component, 0 for an unknown type.

@@ -2,3 +2,4 @@ pub mod IndexLists
 pub mod Search
 pub mod Questions
 pub mod Sources
+pub mod Vertices

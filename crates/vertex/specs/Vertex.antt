@@ -63,10 +63,14 @@ pairFrom v = record { s = at v 0; t = at v 1 }
 abbrev pub transformedPair : List Float → List Float → Pair
 transformedPair m v = pairFrom (transformed m (at v 0 ∷ at v 1 ∷ f0 ∷ f1 ∷ []))
 
+-- the array of a unit
+abbrev pub unitArray : Scene → ℕ → ArrayPointer
+unitArray s unit = getD (s .arrays .texcoord) unit freshArray
+
 -- of a stage: an enabled array's element, transformed, 0 and 0 standing in for a failed fetch; of a disabled array the current pair as it is
 unfoldable pub stagePair : Scene → ℕ → ℕ → Pair
 stagePair s index unit =
-    let a = getD (s .arrays .texcoord) unit freshArray in
+    let a = unitArray s unit in
     cond (a .enabled) (transformedPair (s .texture) (componentsOr (elementOf s a index false) origin)) (getD (s .attributes .pairs) unit noPair)
 
 -- a unit without a stage has 0 and 0

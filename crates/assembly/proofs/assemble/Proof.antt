@@ -1,7 +1,7 @@
 -- `assembly::assemble` meets its contract, from what the inner functions ensure.
 use denote.Ref.{now}
 use Rattle.vertex.specs.SceneCode.{sceneIn}
-use Rattle.assembly.proofs.Fetching.{assembled}
+use Rattle.vertex.proofs.Vertices.{assembled}
 use borrow.Author.Needs.{needs}
 use Rattle.assembly.proofs.assemble.Statement.{statement}
 use Rattle.assembly.proofs.assemble.Tie as tie

@@ -6,7 +6,8 @@ use borrow.Author.Tests.{not-true, not-false}
 use Rattle.fetch.specs.declared.ArrayPointer.{ArrayPointer}
 use Rattle.vertex.specs.SceneCode.{sceneIn}
 use Rattle.vertex.specs.Vertex.{elementOf}
-use Rattle.assembly.proofs.Fetching.{own-array, color-off, color-from}
+use Rattle.vertex.proofs.Vertices.{color-off, color-from}
+use Rattle.assembly.proofs.Fetching.{own-array}
 use borrow.Author.Needs.{needs}
 use Rattle.assembly.proofs.color_at.Statement.{statement}
 use Rattle.assembly.proofs.color_at.Tie as tie

@@ -7,7 +7,8 @@ use borrow.Author.Tests.{not-true, not-false}
 use Rattle.fetch.specs.declared.ArrayPointer.{ArrayPointer}
 use Rattle.vertex.specs.SceneCode.{sceneIn}
 use Rattle.vertex.specs.Vertex.{elementOf, componentsOr, origin, pairFrom}
-use Rattle.assembly.proofs.Fetching.{own-array, pair-none, pair-off, pair-on}
+use Rattle.vertex.proofs.Vertices.{pair-none, pair-off, pair-on}
+use Rattle.assembly.proofs.Fetching.{own-array}
 use borrow.Author.Needs.{needs}
 use Rattle.assembly.proofs.pair_at.Statement.{statement}
 use Rattle.assembly.proofs.pair_at.Tie as tie

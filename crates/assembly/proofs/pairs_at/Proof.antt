@@ -2,7 +2,7 @@
 use mathlib.Core.Path.{refl}
 use denote.Ref.{now}
 use Rattle.vertex.specs.SceneCode.{sceneIn}
-use Rattle.assembly.proofs.Fetching.{texcoords-are}
+use Rattle.vertex.proofs.Vertices.{texcoords-are}
 use borrow.Author.Needs.{needs}
 use Rattle.assembly.proofs.pairs_at.Statement.{statement}
 use Rattle.assembly.proofs.pairs_at.Tie as tie

@@ -5,7 +5,8 @@ use denote.Ref.{now}
 use Rattle.fetch.specs.declared.ArrayPointer.{ArrayPointer}
 use Rattle.vertex.specs.SceneCode.{sceneIn}
 use Rattle.vertex.specs.Vertex.{elementOf}
-use Rattle.assembly.proofs.Fetching.{own-array, position-from}
+use Rattle.vertex.proofs.Vertices.{position-from}
+use Rattle.assembly.proofs.Fetching.{own-array}
 use borrow.Author.Needs.{needs}
 use Rattle.assembly.proofs.position_at.Statement.{statement}
 use Rattle.assembly.proofs.position_at.Tie as tie
