@@ -112,7 +112,7 @@ function is_declared(name) {
     return nodes_of(name)
 }
 
-function is_shown(name) { return name ~ / / || index(" " edits " ", " " name " ") || name in run_name || is_declared(name) }
+function is_shown(name) { return name ~ / / || ("BenchExamples ." name) in field || index(" " edits " ", " " name " ") || name in run_name || is_declared(name) }
 
 function add_functions(pattern,    f) { for (f in home) if (f ~ pattern) carrier[++carriers] = f }
 
