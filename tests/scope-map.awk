@@ -1,8 +1,7 @@
 # The names of docs/SCOPE-MAP.md against the crates. Reads crates.txt, crates/*/specs and crates/*/proofs, crates/*/src, tests/compare/src, and the
 # map last; `edits` are the names of the must-fail edits. It asks
 # - that every name of a definition line or a contract line is declared in the crates;
-# - that every function of a contract line cites a definition of its block: a type stands in its head, any other in its `ensures`, or in the text
-#   of a definition that stands there; entries cite rules by way of `Does` and `Did`, through any number of definitions;
+# - that every function of a contract line cites a definition of its block: a type stands in its head, any other in its `ensures`;
 # - that every definition of a block that names functions or laws is cited by one of them, through any number of definitions;
 # - that every single word of a `shown by` line is a must-fail edit, a theorem, or a name of the differential runs.
 
@@ -116,14 +115,13 @@ function is_shown(name) { return name ~ / / || ("BenchExamples ." name) in field
 
 function add_functions(pattern,    f) { for (f in home) if (f ~ pattern) carrier[++carriers] = f }
 
-function check_block(    i, k, cited, steps) {
+function check_block(    i, k, cited) {
     for (i = 1; i <= definitions; i++) if (!is_declared(definition[i])) wrong("definition " definition[i] " is not declared in the crates")
     for (i = 1; i <= carriers; i++) {
         names++
         if (!is_declared(carrier[i])) { wrong("contract " carrier[i] " is not declared in the crates"); continue }
         cited = definitions == 0 || !(carrier[i] in home)
-        steps = carrier[i] ~ /^(gles_[a-z]+|view)::/ ? 99 : 2
-        for (k = 1; k <= definitions; k++) cited = cited || cites(carrier[i], definition[k], steps)
+        for (k = 1; k <= definitions; k++) cited = cited || cites(carrier[i], definition[k], 1)
         if (!cited) wrong(carrier[i] " cites no definition beside it")
     }
     if (says ~ /the three draws of crate view/) add_functions("^view::draw_")
