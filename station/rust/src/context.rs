@@ -1,8 +1,8 @@
 //! The context and its calls.
 
+use crate::caller::Caller;
 use crate::calls::{append, append_data, append_sub_data, calls, Part, Rotation, Value};
 use crate::draw::Triangle;
-use crate::ffi;
 use crate::list::List;
 use crate::state::State;
 use crate::store::Store;
@@ -36,7 +36,7 @@ impl Reply {
 
 /// A context of the front end, with a method for each call.
 pub struct Context {
-    pub(crate) state: Box<State>,
+    pub(crate) caller: Caller,
     /// The record of the call that is being made.
     pub(crate) words: Vec<u32>,
     /// What the last draw gave.
@@ -51,7 +51,7 @@ impl Context {
     /// Where the library that is linked is of another version than this crate.
     pub fn new() -> Self {
         Context {
-            state: ffi::fresh(),
+            caller: Caller::new(),
             words: Vec::with_capacity(32),
             out: Vec::new(),
             not_sync: PhantomData,
@@ -60,7 +60,7 @@ impl Context {
 
     /// All state, to look at.
     pub fn state(&self) -> &State {
-        &self.state
+        &self.caller.state
     }
 
     /// `glRotatef`: an angle in degrees about an axis of any length.
@@ -70,7 +70,7 @@ impl Context {
     pub fn rotate(&mut self, angle: f32, x: f32, y: f32, z: f32) -> Result<()> {
         self.words.clear();
         Rotation::new(angle, [x, y, z]).append(&mut self.words);
-        self.make_plain()
+        self.caller.plain(&self.words, Some([angle, x, y, z])).result().map(<()>::of)
     }
 
     /// `glBufferData`: the bound buffer has `size` bytes from now on, those of `data` and then 0.
@@ -85,7 +85,7 @@ impl Context {
         let data = data.unwrap_or(&[]);
         self.words.clear();
         append_data(&mut self.words, target, size, Part { place: 0, len: data.len() }, usage);
-        self.make_upload(store, data)
+        self.caller.upload(&self.words, store, data).result().map(<()>::of)
     }
 
     /// `glBufferSubData`: puts bytes into the bound buffer.
@@ -98,27 +98,14 @@ impl Context {
     ) -> Result<()> {
         self.words.clear();
         append_sub_data(&mut self.words, target, offset, Part { place: 0, len: data.len() });
-        self.make_upload(store, data)
+        self.caller.upload(&self.words, store, data).result().map(<()>::of)
     }
 
     /// Makes the calls of a list, one after the other. Each draw writes its triangles from the
     /// start of `out`, 51 f32 each, so a list has one draw, at its end, where those of each are
     /// wanted.
     pub fn run(&mut self, store: &mut Store, list: &List, out: &mut [f32]) -> Reply {
-        store.renew_stamp();
-        ffi::run(&mut self.state, store.bytes(), list.words(), list.bytes(), out)
-    }
-
-    /// Makes the call whose record was put together, which borrows nothing.
-    fn make_plain<T: Value>(&mut self) -> Result<T> {
-        let reply = ffi::run(&mut self.state, &mut [], &self.words, &[], &mut []);
-        reply.result().map(T::of)
-    }
-
-    fn make_upload(&mut self, store: &mut Store, data: &[u8]) -> Result<()> {
-        store.renew_stamp();
-        let reply = ffi::run(&mut self.state, store.bytes(), &self.words, data, &mut []);
-        reply.result().map(<()>::of)
+        self.caller.run(list, store, out)
     }
 }
 
@@ -133,7 +120,7 @@ macro_rules! methods {
                 pub fn $name(&mut self, $($argument: $type),*) -> Result<$value> {
                     self.words.clear();
                     append(&mut self.words, $code, &[$(&$argument),*]);
-                    self.make_plain()
+                    self.caller.plain(&self.words, None).result().map(<$value>::of)
                 }
             )*
         }
@@ -149,6 +136,6 @@ impl Default for Context {
 
 impl fmt::Debug for Context {
     fn fmt(&self, f: &mut fmt::Formatter<'_>) -> fmt::Result {
-        f.debug_struct("Context").field("state", &self.state).finish_non_exhaustive()
+        f.debug_struct("Context").field("state", &self.caller.state).finish_non_exhaustive()
     }
 }

@@ -2,12 +2,15 @@
 
 #![deny(missing_docs)]
 
+mod caller;
 mod calls;
 mod context;
 mod draw;
 mod error;
 mod ffi;
 mod list;
+mod record;
+mod recorder;
 pub mod state;
 mod store;
 
@@ -15,5 +18,6 @@ pub use context::{Context, Reply};
 pub use draw::{Guest, Triangle, Triangles, Vertex, TRIANGLE_FLOATS};
 pub use error::{Error, Result};
 pub use list::List;
+pub use record::RecordError;
 pub use state::State;
 pub use store::Store;

@@ -16,6 +16,8 @@ pub struct List {
     base: u32,
     guest: Part,
     calls: usize,
+    /// Where in the words a rotation stands, and the angle and axis that it was made from.
+    rotations: Vec<(usize, [f32; 4])>,
 }
 
 impl List {
@@ -52,6 +54,7 @@ impl List {
 
     /// `glRotatef`, as [`Context::rotate`](crate::Context::rotate).
     pub fn rotate(&mut self, angle: f32, x: f32, y: f32, z: f32) -> &mut Self {
+        self.rotations.push((self.words.len(), [angle, x, y, z]));
         Rotation::new(angle, [x, y, z]).append(&mut self.words);
         self.count()
     }
@@ -104,6 +107,17 @@ impl List {
 
     pub(crate) fn bytes(&self) -> &[u8] {
         &self.bytes
+    }
+
+    /// The record of each call, with the angle and axis of a rotation.
+    pub(crate) fn records(&self) -> impl Iterator<Item = (&[u32], Option<[f32; 4]>)> {
+        let (mut at, mut rotations) = (0, self.rotations.iter().peekable());
+        (0..self.calls).map(move |_| {
+            let from = at;
+            at += 2 + self.words[from + 1] as usize;
+            let rotation = rotations.next_if(|(place, _)| *place == from);
+            (&self.words[from..at], rotation.map(|(_, asked)| *asked))
+        })
     }
 
     fn draw(&mut self, mode: u32, stages: u32, indices: Indices) -> &mut Self {
