@@ -30,7 +30,8 @@ fn main() {
         );
         exit(1);
     };
-    println!("cargo:rerun-if-changed={}", file(folder, name).display());
+    let folder = folder.canonicalize().expect("the folder is there");
+    println!("cargo:rerun-if-changed={}", file(&folder, name).display());
     println!("cargo:rustc-link-search=native={}", folder.display());
     println!("cargo:rustc-link-lib=static={name}");
 }

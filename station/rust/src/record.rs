@@ -92,8 +92,11 @@ impl Context {
         self.caller.recorder.take().map_or(Ok(()), Recorder::end)
     }
 
-    /// Makes the context fresh again. A recorder goes on: a trace can have that too.
+    /// Makes the context fresh again, if it is not. A recorder goes on: a trace can have that too.
     pub fn reset(&mut self) {
+        if self.caller.fresh {
+            return;
+        }
         let recorder = self.caller.recorder.take();
         self.caller = Caller { recorder, ..Caller::new() };
         if let Some(recorder) = &mut self.caller.recorder {
