@@ -9,6 +9,20 @@ use crate::calls::{
 ///
 /// The list holds the bytes that its calls borrow. Draws read the guest memory that was put in by
 /// [`guest`](List::guest) last before them.
+///
+/// ```
+/// use beonasul::{Context, List, Store, Triangle};
+///
+/// let (mut context, mut store) = (Context::new(), Store::new());
+/// let mut list = List::new();
+/// list.set_vertex_pointer(2, 0x1400, 0, 4096).set_client_state(0x8074, true);
+/// list.guest(4096, &[0, 0, 1, 0, 0, 1]).translate(1.0, 0.0, 0.0).draw_arrays(4, 0, 0, 3);
+/// let mut out = [0.0; 51];
+/// let reply = context.run(&mut store, &list, &mut out);
+/// assert_eq!((reply.made, reply.result()?), (4, 1));
+/// assert_eq!(Triangle::slice_of(&out)[0].vertices[1].position, [2.0, 0.0, 0.0, 1.0]);
+/// # Ok::<(), beonasul::Error>(())
+/// ```
 #[derive(Clone, Debug, Default)]
 pub struct List {
     words: Vec<u32>,
