@@ -2,7 +2,7 @@
 
 mod common;
 
-use beonasul::{Context, Error, Guest, RecordError, Store};
+use beonasul::{Context, Error, Guest, List, RecordError, Store};
 use common::*;
 use std::io::{self, Write};
 
@@ -254,6 +254,20 @@ fn a_store_that_another_context_has_written_stops_the_recorder() {
     }
     let words = page.words();
     context.buffer_sub_data(&mut store, ARRAY_BUFFER, 0, &[2]).unwrap();
+    stops(&mut context, &page, &words, 2, text);
+}
+
+#[test]
+fn a_store_that_another_list_has_written_stops_the_recorder() {
+    let text = "the store is not that of the calls before";
+    let (mut context, mut store, page) = recorded();
+    context.bind_buffer(ARRAY_BUFFER, 1).unwrap();
+    context.buffer_data(&mut store, ARRAY_BUFFER, 4, Some(&[1; 4]), 0).unwrap();
+    let words = page.words();
+    let mut list = List::new();
+    list.bind_buffer(ARRAY_BUFFER, 1).buffer_data(ARRAY_BUFFER, 4, None, 0);
+    assert_eq!(Context::new().run(&mut store, &list, &mut []).number, 0);
+    let _ = context.draw_arrays(&mut store, SQUARE, 4, 0, 0, 3);
     stops(&mut context, &page, &words, 2, text);
 }
 
