@@ -112,6 +112,14 @@ fn a_draw_that_makes_the_output_grow_is_written_once() {
 }
 
 #[test]
+fn an_output_longer_than_a_trace_has_is_written_as_long_as_it_has() {
+    let (mut context, mut store, page) = recorded();
+    let mut out = vec![0.0; 835_585];
+    let _ = context.draw_arrays_into(&mut store, Guest::none(), 4, 0, 0, 3, &mut out);
+    assert_eq!(trace(&page)[4..], [0x61, 5, 4, 0, 835_584, 0, 3]);
+}
+
+#[test]
 fn only_a_fresh_context_can_be_recorded() {
     let mut context = Context::new();
     context.load_identity().unwrap();
@@ -180,7 +188,7 @@ fn a_draw_beyond_the_bounds_is_made_but_not_recorded() {
     assert_eq!(made, Err(Error::PositionUnreadable));
     let made = beyond(text, |context, store| {
         let drawn =
-            context.draw_elements_from_guest(store, view(20_000), 4, 0, 16_385, 0x1401, 4096);
+            context.draw_elements_from_guest(store, view(16_385), 4, 0, 16_385, 0x1401, 4096);
         drawn.map(|drawn| drawn.len())
     });
     assert_eq!(made, Ok(5_461));
@@ -274,6 +282,19 @@ fn a_store_that_another_list_has_written_stops_the_recorder() {
 /// A writer with room for so many bytes.
 struct Full(usize);
 
+/// A writer that loses what it was given.
+struct Lost;
+
+impl Write for Lost {
+    fn write(&mut self, bytes: &[u8]) -> io::Result<usize> {
+        Ok(bytes.len())
+    }
+
+    fn flush(&mut self) -> io::Result<()> {
+        Err(io::ErrorKind::StorageFull.into())
+    }
+}
+
 impl Write for Full {
     fn write(&mut self, bytes: &[u8]) -> io::Result<usize> {
         self.0 = self.0.checked_sub(bytes.len()).ok_or(io::ErrorKind::StorageFull)?;
@@ -296,6 +317,9 @@ fn a_writer_that_fails_stops_the_recorder() {
     assert!(matches!(context.record_error(), Some(RecordError::Write(_))));
     let error = context.stop_recording().unwrap_err();
     assert!(std::error::Error::source(&error).is_some());
+    context.reset();
+    context.record(Lost).unwrap();
+    assert!(matches!(context.stop_recording(), Err(RecordError::Write(_))));
 }
 
 #[test]
