@@ -14,7 +14,7 @@
    - The store of a context is lent to each of its calls and written by nobody else: its buffers' bytes lie there.
    - Every bool in a context is 0 or 1. Any other numbers there are safe: those of no sound context are refused with 1.
    - One thread at a time makes calls on a context. Two contexts with a store and an output each share nothing.
-   - Linux on x86-64. The stack has room for some ten contexts of 3,640 bytes. */
+   - It is Linux on x86-64, and the thread's stack has 64 KB or more: a call takes some 40. */
 #ifndef BEONASUL_H
 #define BEONASUL_H
 

@@ -2,7 +2,7 @@
    program lends. A copy begins right behind a page that cannot be touched, or ends right before one; a call is made both ways. Words and
    bytes can only be read. A touch outside ends the program by a signal. It ends with status 1 and a reason if a byte beside a copy has
    changed, if the two ways give different results, or if a call of one record has changed output or store that it must leave alone. */
-#define _GNU_SOURCE
+#define _DEFAULT_SOURCE
 #include "guarded.h"
 #include <beonasul.h>
 #include <stdio.h>
