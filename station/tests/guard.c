@@ -123,6 +123,7 @@ static void pop_refused(void)
 static int status_with(int fault)
 {
     int status;
+    fflush(stdout);
     const pid_t child = fork();
     if (child == 0) {
         planted_fault = fault;

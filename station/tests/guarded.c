@@ -1,7 +1,8 @@
 /* Stands between a program and the library, by -Wl,--wrap=beonasul_run,--wrap=beonasul_fresh: every call is made on copies of what the
    program lends. A copy begins right behind a page that cannot be touched, or ends right before one; a call is made both ways. Words and
-   bytes can only be read. A touch outside ends the program by a signal. It ends with status 1 and a reason if a byte beside a copy has
-   changed, if the two ways give different results, or if a call of one record has changed output or store that it must leave alone. */
+   bytes can only be read, and the stack holds other bytes each time. A touch outside ends the program by a signal. It ends with status 1
+   and a reason if a byte beside a copy has changed, if the two ways give different results, or if a call of one record has changed output
+   or store that it must leave alone. */
 #define _DEFAULT_SOURCE
 #include "guarded.h"
 #include <beonasul.h>
@@ -9,7 +10,7 @@
 #include <stdlib.h>
 #include <sys/mman.h>
 
-enum { PAGE = 4096, MARK = 0xa5 };
+enum { PAGE = 4096, MARK = 0xa5, STACK = 65536 };
 
 /* The functions as the machine has them: a result of more than 16 bytes is written to a place that the caller names first. So the place
    can lie beside a guard page too. */
@@ -72,12 +73,30 @@ static void give_back(area *a, void *to)
 
 /* ---- one way of a call */
 
+/* Fills what is below on the stack, where the call will lie. A result that hangs on bytes that nobody wrote is then another one. */
+static void fill_stack(int byte)
+{
+    uint8_t below[STACK];
+    memset(below, byte, sizeof below);
+    __asm__ volatile("" : : "r"(below) : "memory"); /* the bytes count as read */
+}
+
+/* A byte that is on the stack below all that a call uses. */
+static uint8_t left_on_stack(void)
+{
+    uint8_t below[STACK - PAGE];
+    __asm__ volatile("" : "=m"(below)); /* the bytes count as written */
+    return below[0];
+}
+
 static void plant(area *lent, int fault)
 {
     if (fault == OUT_CHANGED)
         lent[OUT].copy[0] ^= 1;
     else if (fault == STORE_CHANGED)
         lent[STORE].copy[0] ^= 1;
+    else if (fault == STACK_READ)
+        ((beonasul_reply *)lent[REPLY].copy)->made = left_on_stack();
     else if (fault >= WRITE && (fault - WRITE == WORDS || fault - WRITE == BYTES))
         lent[fault - WRITE].copy[0] = 0;
     else if (fault >= WRITE)
@@ -94,6 +113,7 @@ static void run_on_copies(area *lent, void *const *from, const size_t *len, bool
         lent[i] = lend(from[i], len[i], at_end);
     make_read_only(&lent[WORDS]);
     make_read_only(&lent[BYTES]);
+    fill_stack(at_end ? 0xff : 0);
     __real_beonasul_run((beonasul_reply *)lent[REPLY].copy, (beonasul_context *)lent[CONTEXT].copy, lent[STORE].copy, len[STORE],
                         (const uint32_t *)lent[WORDS].copy, len[WORDS] / 4, lent[BYTES].copy, len[BYTES], (float *)lent[OUT].copy,
                         len[OUT] / 4);
@@ -102,7 +122,7 @@ static void run_on_copies(area *lent, void *const *from, const size_t *len, bool
         check_beside(&lent[i]);
 }
 
-/* ---- what a call must leave alone */
+/* ---- what a call must leave alone, and that it gives the same again */
 
 static bool is_same(const area *a, const void *before, size_t at)
 {
@@ -124,9 +144,32 @@ static void check_left_alone(const area *lent, void *const *from, const uint32_t
     must((uploads && reply->number == 0) || is_same(&lent[STORE], from[STORE], 0), "the store has changed");
 }
 
+/* The bytes between the fields of a context, which are nobody's: three behind each bool, four behind the mode, those behind the error. */
+static void clear_between(uint8_t *context)
+{
+    static const size_t bools[] = {
+        offsetof(beonasul_context, arrays.vertex.enabled), offsetof(beonasul_context, arrays.color.enabled),
+        offsetof(beonasul_context, arrays.normal.enabled), offsetof(beonasul_context, arrays.texcoord[0].enabled),
+        offsetof(beonasul_context, arrays.texcoord[1].enabled), offsetof(beonasul_context, arrays.texcoord[2].enabled),
+        offsetof(beonasul_context, arrays.texcoord[3].enabled), offsetof(beonasul_context, settings.units[0].enabled),
+        offsetof(beonasul_context, settings.units[1].enabled), offsetof(beonasul_context, settings.units[2].enabled),
+        offsetof(beonasul_context, settings.units[3].enabled), offsetof(beonasul_context, settings.depth_test),
+        offsetof(beonasul_context, settings.alpha_test), offsetof(beonasul_context, settings.blend),
+        offsetof(beonasul_context, settings.cull), offsetof(beonasul_context, settings.fog),
+    };
+    const size_t end = offsetof(beonasul_context, error) + sizeof(uint32_t);
+    for (size_t i = 0; i < sizeof bools / sizeof *bools; i++)
+        memset(context + bools[i] + 1, 0, 3);
+    memset(context + sizeof(uint32_t), 0, offsetof(beonasul_context, stacks) - sizeof(uint32_t));
+    memset(context + end, 0, sizeof(beonasul_context) - end);
+}
+
 static void check_same(const area *a, const area *b)
 {
     const beonasul_reply *x = (const beonasul_reply *)a[REPLY].copy, *y = (const beonasul_reply *)b[REPLY].copy;
+    clear_between(a[CONTEXT].copy);
+    clear_between(b[CONTEXT].copy);
+    must(is_same(&a[CONTEXT], b[CONTEXT].copy, 0), "two calls on the same leave other contexts");
     must(x->number == y->number && x->value == y->value && x->made == y->made, "two calls on the same have other replies");
     must(is_same(&a[STORE], b[STORE].copy, 0) && is_same(&a[OUT], b[OUT].copy, 0), "two calls on the same write other bytes");
 }
@@ -149,13 +192,20 @@ beonasul_reply *__wrap_beonasul_run(beonasul_reply *reply, beonasul_context *con
     return reply;
 }
 
+/* It writes every field, whatever the place held before, and nothing beside it. */
 beonasul_context *__wrap_beonasul_fresh(beonasul_context *context)
 {
+    area a[2];
     for (int at_end = 0; at_end < 2; at_end++) {
-        area a = lend(context, sizeof *context, at_end);
-        __real_beonasul_fresh((beonasul_context *)a.copy);
-        check_beside(&a);
-        give_back(&a, context);
+        a[at_end] = lend(context, sizeof *context, at_end);
+        memset(a[at_end].copy, at_end ? 0xff : 0, sizeof *context);
+        fill_stack(at_end ? 0xff : 0);
+        __real_beonasul_fresh((beonasul_context *)a[at_end].copy);
+        check_beside(&a[at_end]);
+        clear_between(a[at_end].copy);
     }
+    must(is_same(&a[0], a[1].copy, 0), "two fresh contexts differ");
+    give_back(&a[0], NULL);
+    give_back(&a[1], context);
     return context;
 }
