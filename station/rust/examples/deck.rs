@@ -87,7 +87,7 @@ impl Viewer {
             code::POP => context.pop_matrix(),
             code::TRANSLATE => context.translate(r.float(0), r.float(1), r.float(2)),
             code::SCALE => context.scale(r.float(0), r.float(1), r.float(2)),
-            code::ROTATE => context.rotate(r.float(5), r.float(6), r.float(7), r.float(8)),
+            code::ROTATE => context.rotate_by(r.float(0), r.float(1), r.floats(2)),
             code::ROTATE_ZERO => context.rotate(r.float(0), r.float(1), r.float(2), r.float(3)),
             code => {
                 let [left, right, bottom, top, near, far] = r.floats(0);

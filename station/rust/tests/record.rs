@@ -2,7 +2,7 @@
 
 mod common;
 
-use beonasul::{Context, Error, Guest, RecordError, Store};
+use beonasul::{Context, Error, Guest, List, RecordError, Store};
 use common::*;
 use std::io::{self, Write};
 
@@ -112,6 +112,14 @@ fn a_draw_that_makes_the_output_grow_is_written_once() {
 }
 
 #[test]
+fn an_output_longer_than_a_trace_has_is_written_as_long_as_it_has() {
+    let (mut context, mut store, page) = recorded();
+    let mut out = vec![0.0; 835_585];
+    let _ = context.draw_arrays_into(&mut store, Guest::none(), 4, 0, 0, 3, &mut out);
+    assert_eq!(trace(&page)[4..], [0x61, 5, 4, 0, 835_584, 0, 3]);
+}
+
+#[test]
 fn only_a_fresh_context_can_be_recorded() {
     let mut context = Context::new();
     context.load_identity().unwrap();
@@ -180,7 +188,7 @@ fn a_draw_beyond_the_bounds_is_made_but_not_recorded() {
     assert_eq!(made, Err(Error::PositionUnreadable));
     let made = beyond(text, |context, store| {
         let drawn =
-            context.draw_elements_from_guest(store, view(20_000), 4, 0, 16_385, 0x1401, 4096);
+            context.draw_elements_from_guest(store, view(16_385), 4, 0, 16_385, 0x1401, 4096);
         drawn.map(|drawn| drawn.len())
     });
     assert_eq!(made, Ok(5_461));
@@ -257,8 +265,35 @@ fn a_store_that_another_context_has_written_stops_the_recorder() {
     stops(&mut context, &page, &words, 2, text);
 }
 
+#[test]
+fn a_store_that_another_list_has_written_stops_the_recorder() {
+    let text = "the store is not that of the calls before";
+    let (mut context, mut store, page) = recorded();
+    context.bind_buffer(ARRAY_BUFFER, 1).unwrap();
+    context.buffer_data(&mut store, ARRAY_BUFFER, 4, Some(&[1; 4]), 0).unwrap();
+    let words = page.words();
+    let mut list = List::new();
+    list.bind_buffer(ARRAY_BUFFER, 1).buffer_data(ARRAY_BUFFER, 4, None, 0);
+    assert_eq!(Context::new().run(&mut store, &list, &mut []).number, 0);
+    let _ = context.draw_arrays(&mut store, SQUARE, 4, 0, 0, 3);
+    stops(&mut context, &page, &words, 2, text);
+}
+
 /// A writer with room for so many bytes.
 struct Full(usize);
+
+/// A writer that loses what it was given.
+struct Lost;
+
+impl Write for Lost {
+    fn write(&mut self, bytes: &[u8]) -> io::Result<usize> {
+        Ok(bytes.len())
+    }
+
+    fn flush(&mut self) -> io::Result<()> {
+        Err(io::ErrorKind::StorageFull.into())
+    }
+}
 
 impl Write for Full {
     fn write(&mut self, bytes: &[u8]) -> io::Result<usize> {
@@ -282,6 +317,9 @@ fn a_writer_that_fails_stops_the_recorder() {
     assert!(matches!(context.record_error(), Some(RecordError::Write(_))));
     let error = context.stop_recording().unwrap_err();
     assert!(std::error::Error::source(&error).is_some());
+    context.reset();
+    context.record(Lost).unwrap();
+    assert!(matches!(context.stop_recording(), Err(RecordError::Write(_))));
 }
 
 #[test]

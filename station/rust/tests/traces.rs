@@ -6,9 +6,13 @@ mod common;
 #[path = "../examples/deck.rs"]
 mod deck;
 
+use beonasul::Context;
 use common::Page;
 use deck::trace::{self, code, Record};
 use deck::Viewer;
+
+/// Lists of calls whose rotations the Rust has worked out.
+const LISTS: &str = "tests/recorded/lists.trace";
 
 /// A call with all that the trace says of it; a draw has the guest view in force.
 #[derive(Debug, PartialEq)]
@@ -18,7 +22,8 @@ struct Call {
     guest: Option<(u32, Vec<u8>)>,
 }
 
-/// The calls of a trace. No data and empty data are the same.
+/// The calls of a trace. No data and empty data are the same; a rotation is made by its first five
+/// words.
 fn calls(records: &[Record]) -> Vec<Call> {
     let (mut viewer, mut calls) = (Viewer::default(), Vec::new());
     for r in records {
@@ -26,6 +31,7 @@ fn calls(records: &[Record]) -> Vec<Call> {
         match code {
             code::GUEST..=code::GUEST_BASE => viewer.set_guest(r),
             code::BUFFER_DATA => words[3] = (words[4] > 0) as u32,
+            code::ROTATE => words.truncate(5),
             _ => {}
         }
         let guest = (code >= code::DRAW_LIST).then(|| (viewer.base, viewer.guest.clone()));
@@ -47,11 +53,15 @@ fn play(records: &[Record]) -> (Vec<u8>, Vec<u8>) {
     (answers, page.bytes())
 }
 
-/// Plays a trace of the repository.
-fn holds_its_calls(path: &str) {
+/// The records of a trace of the repository.
+fn read(path: &str) -> Vec<Record> {
     let place = format!("{}/../../{path}", env!("CARGO_MANIFEST_DIR"));
     let bytes = std::fs::read(&place).unwrap_or_else(|error| panic!("{place}: {error}"));
-    let records = trace::read(&bytes).unwrap();
+    trace::read(&bytes).unwrap()
+}
+
+/// Plays a trace.
+fn holds_its_calls(records: Vec<Record>) {
     let (answers, recording) = play(&records);
     let recorded = trace::read(&recording).unwrap();
     let (want, got) = (calls(&records), calls(&recorded));
@@ -65,10 +75,23 @@ fn holds_its_calls(path: &str) {
 
 #[test]
 fn a_recorded_deck_has_its_calls() {
-    holds_its_calls("samples/deck-09.trace");
+    holds_its_calls(read("samples/deck-09.trace"));
 }
 
 #[test]
 fn recorded_lists_have_their_calls() {
-    holds_its_calls("tests/recorded/lists.trace");
+    holds_its_calls(read(LISTS));
+}
+
+#[test]
+fn rotations_are_worked_out_as_in_the_lists() {
+    let mut rotations = 0;
+    for r in read(LISTS).iter().filter(|r| r.code == code::ROTATE) {
+        let (mut context, page) = (Context::new(), Page::default());
+        context.record(page.clone()).unwrap();
+        context.rotate(r.float(5), r.float(6), r.float(7), r.float(8)).unwrap();
+        assert_eq!(page.words()[4..], r.words);
+        rotations += 1;
+    }
+    assert!(rotations > 10);
 }
