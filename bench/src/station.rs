@@ -126,7 +126,7 @@ fn by_turns<const N: usize>(plan: &Plan, mut works: [&mut dyn FnMut(u32); N]) ->
     best
 }
 
-/// Does something so many steps further down the stack: where the stack lies can change the time of a copy by a third.
+/// Does something so many steps further down the stack: where the stack lies can change the time of a call by a third and more.
 pub fn deeper(steps: u32, work: &mut dyn FnMut() -> f64) -> f64 {
     let room = black_box([0u8; 208]);
     let ns = if steps == 0 { work() } else { deeper(steps - 1, work) };
