@@ -27,6 +27,7 @@ pub enum Fetched {
 }
 
 // A client array. With a buffer its pointer is an offset into it, else a guest address.
+#[repr(C)]
 pub struct ArrayPointer {
     pub enabled: bool,
     pub size: u32,

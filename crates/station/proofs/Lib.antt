@@ -1,0 +1,5 @@
+pub mod Four
+pub mod Back
+pub mod Lent
+pub mod Pairs
+pub mod Parts
