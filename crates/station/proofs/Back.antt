@@ -2,7 +2,7 @@
 --     back      contextFrom (keptOf c) ≡ c
 --     encodes   what is kept of a context are the numbers of one
 -- Assumes nothing.
-use mathlib.Core.Path.{_≡_, refl, ap, subst, subst⁻¹}
+use mathlib.Core.Path.{_≡_, refl, sym, ap, subst, subst⁻¹, _∙_}
 use mathlib.Core.List.{List, [], _∷_, map}
 use Prim.Native.Nat.{ℕ}
 use lib.Dec.{eqb}
@@ -18,10 +18,12 @@ use Rattle.pipeline.specs.declared.TextureUnit.{TextureUnit}
 use Rattle.pipeline.specs.declared.Pipeline.{Pipeline}
 use Rattle.context.specs.declared.MatrixMode.{MatrixMode}
 use Rattle.context.specs.declared.Context.{Context}
-use Rattle.context.specs.State.{Fresh}
+use Rattle.context.specs.State.{State, Fresh}
+use Rattle.pipeline.specs.Pipeline.{freshPipeline}
 use Rattle.list_runner.specs.declared.ListReply.{ListReply}
 use Rattle.list_runner.specs.Run.{MakesList}
 use Rattle.station.specs.declared.Kept.{Kept}
+use Rattle.station.specs.declared.KeptSettings.{KeptSettings}
 use Rattle.station.specs.declared.StationReply.{StationReply}
 use Rattle.station.specs.declared.KeptReply.{KeptReply}
 use Rattle.station.specs.Kept.{modeCode, compareCode, blendCode, cullCode, faceCode, fogCode, envCode, modeFrom, compareFrom, blendFrom, cullFrom, faceFrom, fogFrom, envFrom, keptUnit, unitFrom, keptSettings, settingsFrom, keptOf, contextFrom}
@@ -97,8 +99,17 @@ encodes c = ap keptOf (back c)
 
 -- ---- what the functions by value promise
 
-pub fresh-kept : {c : Context} {k : Kept} → Fresh c → k ≡ keptOf c → FreshKept k
-fresh-kept {c} f e = subst⁻¹ FreshKept e (record { fresh = subst⁻¹ Fresh (back c) f; encodes = encodes c })
+-- the numbers of a fresh context, with the fresh settings
+pub fresh-kept : {c : Context} {settings : KeptSettings} → Fresh c → settings ≡ keptSettings freshPipeline
+    → FreshKept (record { mode = modeCode MatrixMode.Modelview; stacks = c .stacks; buffers = c .buffers; arrays = c .arrays; attributes = c .attributes; settings = settings; error = 0 })
+fresh-kept {c = c} {settings = settings} f e =
+    let state = f .state [] in
+    let m : modeCode (c .mode) ≡ modeCode MatrixMode.Modelview = ap (λ (x : State). modeCode (x .mode)) state in
+    let p : keptSettings (c .pipeline) ≡ settings = ap (λ (x : State). keptSettings (x .pipeline)) state ∙ sym e in
+    let z : c .error ≡ 0 = ap (λ (x : State). x .error) state in
+    subst FreshKept
+    (λ i. record { mode = m i; stacks = c .stacks; buffers = c .buffers; arrays = c .arrays; attributes = c .attributes; settings = p i; error = z i })
+    (record { fresh = subst⁻¹ Fresh (back c) f; encodes = encodes c })
 
 pub had-run : {k : Kept} {s words bytes : List ℕ} {out : List Float} {c : Context} {l : ListReply} {r : StationReply} {k1 : Kept} {s1 : List ℕ} {out1 : List Float}
     → Encodes k → c ≡ contextFrom k → MakesList c words bytes s out l s1 out1 → r ≡ answerIn (eqb (l .read) (length words)) (l .number) (l .value) (l .made) → k1 ≡ keptOf (l .context)

@@ -24,12 +24,15 @@ ghost use mathlib.Core.Path.{_≡_};
 ghost use mathlib.Core.List.{map};
 ghost use Rattle.station.specs.Kept.{modeCode, compareCode, blendCode, cullCode, faceCode, fogCode, envCode, modeFrom, compareFrom, blendFrom, cullFrom, faceFrom, fogFrom, envFrom, keptUnit, unitFrom, keptSettings, settingsFrom, keptOf, contextFrom};
 ghost use Rattle.number.specs.Decides.{Decides};
+ghost use Rattle.pipeline.specs.Pipeline.{freshPipeline};
 ghost use Rattle.station.specs.Boundary.{layout, FreshKept, Ran};
 ghost use Rattle.station.specs.BoundaryCode.{PartsEncode, refusalOf, answerIn};
 
 // The version of the boundary, and how many bytes its structs have.
 pub const VERSION: u32 = 1;
+
 pub const CONTEXT_BYTES: u32 = 3640;
+
 pub const REPLY_BYTES: u32 = 24;
 
 // The number of a list with words that are no record.
@@ -587,12 +590,12 @@ pub fn run(k: Kept, store: &mut [u8], words: &[u32], bytes: &[u8], out: &mut [f3
     if !is_context(k.mode, settings) {
         return refuse(k);
     }
-    let c = context_from(k);
-    let r = list_runner::run_on(c, words, bytes, &mut store[..], &mut out[..]);
+    let r = list_runner::run_on(context_from(k), words, bytes, &mut store[..], &mut out[..]);
     let after = r.context;
-    let kept = kept_of(after);
-    let reply = answer_in(r.read == words.len(), r.number, r.value, r.made);
-    KeptReply { reply, kept }
+    KeptReply {
+        reply: answer_in(r.read == words.len(), r.number, r.value, r.made),
+        kept: kept_of(after),
+    }
 }
 
 // ---- the C boundary
@@ -618,13 +621,58 @@ pub extern "C" fn beonasul_layout() -> Layout
     }
 }
 
+// The settings of a fresh context.
+fn fresh_settings() -> KeptSettings
+    ensures { λ r. ⌜ r ≡ keptSettings freshPipeline ⌝ }
+{
+    let unit = KeptUnit {
+        enabled: false,
+        env_mode: 0x2100,
+        env_color: [0.0; 4],
+    };
+    KeptSettings {
+        active_texture: 0,
+        units: [unit, unit, unit, unit],
+        depth_test: false,
+        depth_func: 0x0201,
+        near: 0.0,
+        far: 1.0,
+        alpha_test: false,
+        alpha_func: 0x0207,
+        reference: 0.0,
+        blend: false,
+        src: 1,
+        dst: 0,
+        cull: false,
+        cull_mode: 0x0405,
+        front_face: 0x0901,
+        fog: false,
+        fog_mode: 0x0800,
+        density: 1.0,
+        start: 0.0,
+        end: 1.0,
+    }
+}
+
 // A fresh context.
 #[no_mangle]
 pub extern "C" fn beonasul_fresh() -> Kept
     ensures { λ r. ⌜ FreshKept r ⌝ }
 {
     let c = Context::new();
-    kept_of(c)
+    let stacks = c.stacks;
+    let buffers = c.buffers;
+    let arrays = c.arrays;
+    let attributes = c.attributes;
+    Kept {
+        mode: 0x1700,
+        stacks,
+        buffers,
+        arrays,
+        attributes,
+        settings: fresh_settings(),
+        error: 0,
+    }
 }
 
 // The calls of a list on the kept context.
