@@ -7,7 +7,7 @@ ghost use Prim.Native.Nat.{ℕ, _+_, _-_, _*_, _<_, _≤_, min};
 ghost use lib.ListN.{length, take, drop};
 ghost use Rattle.buffers.specs.Objects.{slotCount, slotBytes, contentsOf, lenAt};
 ghost use Rattle.fetch.specs.Fetch.{freshArray, inBuffer, inGuest, partOf, partState, isFound, bytesIn};
-ghost use Rattle.fetch.specs.FetchCode.{partSource, Located, extentOf};
+ghost use Rattle.fetch.specs.FetchCode.{partSource, Located, Covers};
 
 // Four components.
 pub struct Vec4 {
@@ -224,7 +224,8 @@ pub struct Extent {
 
 // The extent of a buffer, or with buffer 0 of the guest bytes; not known where the buffer is absent.
 pub fn find_extent(b: Buffers, store: &[u8], base: u32, guest: &[u8], buffer: u32) -> Extent
-    ensures { λ r. ⌜ r ≡ extentOf (b .slots) (length (now (store .entry))) base (length (now (guest .entry))) buffer ⌝ }
+    ensures { λ r. ⌜ Covers (partOf (contentsOf (b .slots) (now (store .entry))) base (now (guest .entry)) buffer)
+        (partSource buffer (now (store .entry)) (now (guest .entry))) r ⌝ }
 {
     if buffer == 0 {
         return Extent {
