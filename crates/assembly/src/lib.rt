@@ -19,13 +19,13 @@ ghost use Rattle.number.specs.Numbers.{littleEndian, signedAt};
 ghost use Rattle.buffers.specs.Bounded.{first};
 ghost use Rattle.buffers.specs.Objects.{contentsOf};
 ghost use Rattle.fetch.specs.Decode.{componentBytes, unsignedComponent, signedComponent, componentOf, component, vectorOf};
-ghost use Rattle.fetch.specs.Fetch.{lastAddress, positionNumber};
+ghost use Rattle.fetch.specs.Fetch.{lastAddress, elementBytes, strideOf, positionNumber};
 ghost use Rattle.fetch.specs.FetchCode.{partSource};
 ghost use Rattle.vertex.specs.SceneCode.{sceneIn, indexList};
 ghost use Rattle.vertex.specs.Vertex.{elementOf, objectPosition, colorOf, componentsOr, origin, hasStage, pairFrom, transformedPair};
 ghost use Rattle.vertex.specs.Vertex.{unitArray, pairOf, pairWords, texcoordsOf, vertexOf, four, vertexWords};
 ghost use Rattle.vertex.specs.Questions.{positionAt, fails, hasVertices, listNumber};
-ghost use Rattle.assembly.specs.Elements.{OneTwoFour, stepOf, missingAt, locationOf, Locates, Prepares, PreparesFor, Plans};
+ghost use Rattle.assembly.specs.Elements.{OneTwoFour, missingAt, locationOf, Locates, Prepares, PreparesFor, Plans};
 ghost use Rattle.assembly.specs.Corners.{cornerIndex, cornersWritten, cornerWords};
 
 // Bytes of a component, 0 for an unknown type.
@@ -291,9 +291,9 @@ fn last_address(low: u32, room: usize, len: usize) -> u32
     0xffff_ffff
 }
 
-// The stride, or the element's length where it is 0; 0 for a length past 32 bits.
+// The distance between the elements of an array, by its stride and its element's length; an array whose length passes 32 bits has no element.
 fn step_of(stride: u32, len: u64) -> u32
-    ensures { λ r. ⌜ r ≡ stepOf stride len ⌝ }
+    ensures { λ r. ⌜ ((a : ArrayPointer) → stride ≡ a .stride → len ≡ elementBytes a → len ≤ lastAddress → r ≡ strideOf a) ⌝ }
 {
     if stride != 0 {
         return stride;
