@@ -4,3 +4,5 @@ pub mod Addresses
 pub mod Preparing
 pub mod Fetching
 pub mod Written
+pub mod Triangles
+pub mod CornerLists

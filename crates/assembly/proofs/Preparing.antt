@@ -7,14 +7,13 @@ use Prim.Native.Nat.{ℕ, _+_, _-_, _*_, _<_, _≤_, min}
 use native.Mathlib.Omega.{arith}
 use borrow.Author.Tests.{lt-ltb, ltb-true, ltb-false}
 use lib.Dec.{eqb, ltb}
-use lib.ListN.{length, take, drop}
-use Rattle.fetch.specs.Decode.{componentBytes, vectorOf}
-use Rattle.fetch.specs.Fetch.{Part, Address, bytes, noBuffer, unreadable, lastAddress, elementBytes, strideOf, addressOf, partOf, decoded, fetchedAt, fetched}
+use Rattle.fetch.specs.Decode.{componentBytes}
+use Rattle.fetch.specs.Fetch.{Part, Address, noBuffer, unreadable, lastAddress, elementBytes, strideOf, addressOf, partOf, decoded, fetchedAt, fetched}
 use Rattle.fetch.specs.FetchCode.{partSource, Covers}
 use Rattle.fetch.specs.declared.ArrayPointer.{ArrayPointer}
 use Rattle.fetch.specs.declared.Extent.{Extent}
 use Rattle.fetch.specs.declared.Fetched.{Fetched}
-use Rattle.assembly.specs.Elements.{missingAt, locationAt, locationOf, Locates, Prepares}
+use Rattle.assembly.specs.ElementsCode.{missingAt, locationAt, locationOf, Locates, Prepares}
 use Rattle.assembly.specs.declared.Failure.{Failure}
 use Rattle.assembly.specs.declared.Location.{Location}
 use Rattle.assembly.specs.declared.Prepared.{Prepared}

@@ -1,6 +1,6 @@
 // Which places of a list of indices are the corners of triangles, and how many triangles there are.
 ghost use mathlib.Core.Path.{_≡_};
-ghost use Prim.Native.Nat.{ℕ, _<_, _≤_};
+ghost use Prim.Native.Nat.{_<_, _≤_};
 ghost use Rattle.corners.specs.Places.{primitiveOf, triangleCount, cornersOf, cornerPlace};
 
 pub enum Primitive {

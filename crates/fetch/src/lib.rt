@@ -3,7 +3,7 @@ use buffers::Buffers;
 use buffers::SLOT_BYTES;
 use buffers::SLOT_COUNT;
 ghost use mathlib.Core.Path.{_≡_};
-ghost use Prim.Native.Nat.{ℕ, _+_, _-_, _*_, _<_, _≤_, min};
+ghost use Prim.Native.Nat.{_+_, _-_, _*_, _<_, _≤_, min};
 ghost use lib.ListN.{length, take, drop};
 ghost use Rattle.buffers.specs.Objects.{slotCount, slotBytes, contentsOf, lenAt};
 ghost use Rattle.fetch.specs.Fetch.{freshArray, inBuffer, inGuest, partOf, partState, isFound, bytesIn};

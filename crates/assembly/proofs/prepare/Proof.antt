@@ -6,7 +6,7 @@ use denote.Ref.{now}
 use borrow.Author.Tests.{not-true, not-false}
 use Rattle.buffers.specs.Objects.{contentsOf}
 use Rattle.fetch.specs.Fetch.{lastAddress, strideOf}
-use Rattle.assembly.specs.Elements.{Prepares}
+use Rattle.assembly.specs.ElementsCode.{Prepares}
 use Rattle.assembly.specs.declared.Failure.{Failure}
 use Rattle.assembly.proofs.Addresses.{below}
 use Rattle.assembly.proofs.Widths.{width-small}

@@ -10,10 +10,10 @@ use Rattle.corners.specs.declared.Primitive.{Primitive}
 use Rattle.corners.proofs.Places.{place-a, place-b, place-c}
 use Rattle.vertex.specs.Vertex.{vertexWords}
 use Rattle.vertex.specs.declared.Vertex.{Vertex}
-use Rattle.assembly.specs.Corners.{cornerWords}
+use Rattle.assembly.specs.CornersCode.{cornerWords}
 use Rattle.assembly.proofs.Written.{corners-more}
-use Rattle.draw.specs.Triangles.{threeWords, trianglesTo, wordsOf}
-use Rattle.draw.proofs.Laws.{words-more}
+use Rattle.assembly.specs.Triangles.{threeWords, trianglesTo, wordsOf}
+use Rattle.assembly.proofs.Triangles.{words-more}
 
 three-more : (vertex : ℕ → Vertex) (p : Primitive) (n : ℕ) → cornerWords (λ c. vertex (cornerPlace p c)) (3 * n) ≡ wordsOf (trianglesTo vertex p n)
     → cornerWords (λ c. vertex (cornerPlace p c)) (3 * suc n) ≡ wordsOf (trianglesTo vertex p (suc n))
