@@ -1,13 +1,12 @@
 -- For the code: where the bytes of a part lie in the store or in the guest bytes.
-use Prim.Native.Nat.{ℕ, _+_, _-_, _<_, _≤_}
-use mathlib.Core.Bool.{true, false, cond}
+use Prim.Native.Nat.{ℕ, _+_, _≤_}
+use mathlib.Core.Bool.{cond}
 use mathlib.Core.List.{List}
 use mathlib.Core.Path.{_≡_}
 use lib.Dec.{eqb}
 use lib.ListN.{length, take, drop}
 use Rattle.fetch.specs.Fetch.{Part, bytes, noBuffer, unreadable}
 use Rattle.fetch.specs.declared.Place.{Place}
-use Rattle.fetch.specs.declared.Extent.{Extent}
 
 -- the bytes that a part is of: with buffer 0 the guest's, else the store's
 abbrev pub partSource : ℕ → List ℕ → List ℕ → List ℕ
@@ -18,12 +17,3 @@ abbrev pub Located : Part → List ℕ → ℕ → Place → Type 0
 Located part source len (Place.At at) = (at + len ≤ length source) × (part ≡ bytes (take len (drop at source)))
 Located part source len Place.NoBuffer = part ≡ noBuffer
 Located part source len Place.Unreadable = part ≡ unreadable
-
--- an extent of a source covers the parts at all addresses: those within it are its bytes, and of the others it says why they are not there
-pub record Covers (part : ℕ → ℕ → Part) (source : List ℕ) (x : Extent) : Type 0 where
-  pub there : x .known ≡ true → (A L : ℕ) → x .low ≤ A → A - x .low + L ≤ x .room → part A L ≡ bytes (take L (drop (x .origin + (A - x .low)) source))
-  pub under : x .known ≡ true → (A L : ℕ) → A < x .low → part A L ≡ unreadable
-  pub short : x .known ≡ true → (A L : ℕ) → x .low ≤ A → x .room < A - x .low + L → part A L ≡ unreadable
-  pub absent : x .known ≡ false → (A L : ℕ) → part A L ≡ noBuffer
-  pub within : x .origin + x .room ≤ length source
-  pub near : x .origin < 65536
