@@ -9,7 +9,7 @@ use borrow.Author.Tests.{lt-ltb, ltb-true, ltb-false}
 use lib.Dec.{eqb, ltb}
 use Rattle.fetch.specs.Decode.{componentBytes}
 use Rattle.fetch.specs.Fetch.{Part, Address, noBuffer, unreadable, lastAddress, elementBytes, strideOf, addressOf, partOf, decoded, fetchedAt, fetched}
-use Rattle.fetch.specs.FetchCode.{partSource, Covers}
+use Rattle.fetch.specs.FetchCode.{partSource}
 use Rattle.fetch.specs.declared.ArrayPointer.{ArrayPointer}
 use Rattle.fetch.specs.declared.Extent.{Extent}
 use Rattle.fetch.specs.declared.Fetched.{Fetched}
@@ -17,6 +17,7 @@ use Rattle.assembly.specs.ElementsCode.{missingAt, locationAt, locationO
 use Rattle.assembly.specs.declared.Failure.{Failure}
 use Rattle.assembly.specs.declared.Location.{Location}
 use Rattle.assembly.specs.declared.Prepared.{Prepared}
+use Rattle.fetch.proofs.Extents.{Covers}
 use Rattle.assembly.proofs.Addresses.{no-type, long, far, past, there}
 
 module _ (contents : ℕ → Option (List ℕ)) (base : ℕ) (store guest : List ℕ) (a : ArrayPointer) where

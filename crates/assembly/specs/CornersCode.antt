@@ -1,4 +1,4 @@
--- For the code: the corners of a draw one after the other, those of all triangles numbered from 0. Three by three their f32 are those of `wordsOf` (`corner-words`).
+-- For the code: the corners of a draw one after the other, those of all triangles numbered from 0. Their f32 are the first of `wordsOf` (`corners-front`).
 use mathlib.Core.List.{List, [], _++_}
 use Prim.Native.Nat.{ℕ, zero, suc}
 use lib.Ieee.{Float}

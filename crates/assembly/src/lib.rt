@@ -11,7 +11,7 @@ use vertex::Vertex;
 ghost use mathlib.Core.Path.{_≡_};
 ghost use mathlib.Core.Bool.{Bool, true, false};
 ghost use mathlib.Core.List.{List};
-ghost use Prim.Native.Nat.{ℕ, _+_, _-_, _*_, _^_, _<_, _≤_, min};
+ghost use Prim.Native.Nat.{ℕ, _+_, _-_, _*_, _/_, _^_, _<_, _≤_, min};
 ghost use lib.ListN.{length, getD, take, drop};
 ghost use lib.Seq.{sets};
 ghost use Rattle.number.specs.Numbers.{littleEndian, signedAt};
@@ -838,9 +838,9 @@ pub fn write_corners<'a>(
     n: usize,
     out: &mut [f32],
 )
-    ensures { λ _. ⌜ ((count : ℕ) → n ≡ 3 * count → 51 * count ≤ length (now (out .entry))
-        → now (out .exit) ≡ sets (now (out .entry)) 0 (wordsOf (trianglesTo (vertexAt (sceneIn s (now (store .entry)) (now (guest .entry)))
-        (indexList kind (now (list .entry)) (now (elements .entry)))) p count)))
+    ensures { λ _. ⌜ (17 * n ≤ length (now (out .entry))
+        → now (out .exit) ≡ sets (now (out .entry)) 0 (take (17 * n) (wordsOf (trianglesTo (vertexAt (sceneIn s (now (store .entry)) (now (guest .entry)))
+        (indexList kind (now (list .entry)) (now (elements .entry)))) p ((n + 2) / 3)))))
         × (length (now (out .entry)) < 17 * n → now (out .exit) ≡ now (out .entry)) ⌝ }
 {
     if out.len() / 17 < n {

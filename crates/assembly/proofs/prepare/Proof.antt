@@ -5,7 +5,9 @@ use native.Mathlib.Omega.{arith}
 use denote.Ref.{now}
 use borrow.Author.Tests.{not-true, not-false}
 use Rattle.buffers.specs.Objects.{contentsOf}
-use Rattle.fetch.specs.Fetch.{lastAddress, strideOf}
+use Rattle.fetch.specs.Fetch.{lastAddress, strideOf, partOf}
+use Rattle.fetch.specs.FetchCode.{partSource}
+use Rattle.fetch.proofs.Extents.{Covers, covers}
 use Rattle.assembly.specs.ElementsCode.{Prepares}
 use Rattle.assembly.specs.declared.Failure.{Failure}
 use Rattle.assembly.proofs.Addresses.{below}
@@ -14,6 +16,15 @@ use Rattle.assembly.proofs.Preparing.{of-no-type, of-long, of-absent, o
 use borrow.Author.Needs.{needs}
 use Rattle.assembly.proofs.prepare.Statement.{statement}
 use Rattle.assembly.proofs.prepare.Tie as tie
+
+-- what the extent covers
+covered : (c : tie.After-find-extent) →
+    let args = c .before .before .before .args in
+    Covers (partOf (contentsOf (args .b .slots) (now (args .store))) (args .base) (now (args .guest)) (args .array .buffer))
+    (partSource (args .array .buffer) (now (args .store)) (now (args .guest))) (c .find-extent .result)
+covered c =
+    let args = c .before .before .before .args in
+    covers (args .b .slots) (now (args .store)) (now (args .guest)) (args .base) (args .array .buffer) _ (c .find-extent .ensures)
 
 -- the distance between the elements, where their length is within 32 bits
 stride : (c : tie.After-step-of) →
@@ -52,7 +63,7 @@ returns-3 c =
     (sym (c .without-elements3 .ensures
     ∙ (λ i. record { array = args .array; failure = Failure.NoBuffer; len = 0; stride = stride c5 (c3 .if2 .left) i; low = 1; last = 0; origin = 0 })))
     (of-absent (contentsOf (args .b .slots) (now (args .store))) (args .base) (now (args .store)) (now (args .guest)) (args .array) width
-    (c5 .before .before .component-bytes .ensures) (c3 .before .if1 .left) (width * args .array .size) refl (c3 .if2 .left) _ (c8 .find-extent .ensures)
+    (c5 .before .before .component-bytes .ensures) (c3 .before .if1 .left) (width * args .array .size) refl (c3 .if2 .left) _ (covered c8)
     (not-true (c8 .find-extent .result .known) (c .before .if3 .taken)))
 
 returns-4 : tie.Need-returns-4
@@ -64,11 +75,11 @@ returns-4 c =
     (sym (c .without-elements4 .ensures
     ∙ (λ i. record { array = args .array; failure = Failure.Unreadable; len = 0; stride = stride c7 (c5 .if2 .left) i; low = 1; last = 0; origin = 0 })))
     (of-short (contentsOf (args .b .slots) (now (args .store))) (args .base) (now (args .store)) (now (args .guest)) (args .array) width
-    (c7 .before .before .component-bytes .ensures) (c5 .before .if1 .left) (width * args .array .size) refl (c5 .if2 .left) _ (c10 .find-extent .ensures)
+    (c7 .before .before .component-bytes .ensures) (c5 .before .if1 .left) (width * args .array .size) refl (c5 .if2 .left) _ (covered c10)
     (not-false (c10 .find-extent .result .known) (c3 .if3 .left)) (c .before .if4 .taken))
 
 cast-t20 : tie.Need-cast-t20
-cast-t20 c = omega (arith, c .before .before .before .before .before .before .before .before .before .before .before .find-extent .ensures .near)
+cast-t20 c = omega (arith, covered (c .before .before .before .before .before .before .before .before .before .before .before) .near)
 
 returns-5 : tie.Need-returns-5
 returns-5 c =
@@ -80,7 +91,7 @@ returns-5 c =
     (record { array = args .array; failure = Failure.None; len = width * args .array .size; stride = k; low = x .low; last = c .before .last-address .result; origin = x .origin }))
     (sym (stride c8 (c6 .if2 .left)))
     (of-whole (contentsOf (args .b .slots) (now (args .store))) (args .base) (now (args .store)) (now (args .guest)) (args .array) width
-    (c8 .before .before .component-bytes .ensures) (c6 .before .if1 .left) (width * args .array .size) refl (c6 .if2 .left) x (c11 .find-extent .ensures)
+    (c8 .before .before .component-bytes .ensures) (c6 .before .if1 .left) (width * args .array .size) refl (c6 .if2 .left) x (covered c11)
     (not-false (x .known) (c4 .if3 .left)) (c2 .if4 .left) _ (c .before .last-address .ensures))
 
 pub prepare-spec : {M : Type 1} → statement M

@@ -5,17 +5,15 @@ use native.Mathlib.Omega.{arith}
 use denote.Ref.{now}
 use lib.Seq.{sets}
 use Rattle.vertex.specs.SceneCode.{sceneIn, indexList}
-use Rattle.corners.specs.Places.{cornerPlace}
 use Rattle.vertex.specs.declared.Vertex.{Vertex}
 use Rattle.assembly.specs.Triangles.{vertexAt}
-use Rattle.assembly.specs.CornersCode.{cornerWords}
-use Rattle.assembly.proofs.CornerLists.{corner-words}
+use Rattle.assembly.proofs.CornerLists.{corners-front}
 use borrow.Author.Needs.{needs}
 use Rattle.assembly.proofs.write_corners.Statement.{statement}
 use Rattle.assembly.proofs.write_corners.Tie as tie
 
 returns : tie.Need-returns
-returns c = (λ count e h. absurd (omega (arith, e, h, c .if1 .taken)), λ _. refl)
+returns c = (λ h. absurd (omega (arith, h, c .if1 .taken)), λ _. refl)
 
 write-planned-requires : tie.Need-write-planned-requires
 write-planned-requires c κs = (omega (arith, c .before .before .if1 .left), c .before .plan-of .ensures)
@@ -24,9 +22,7 @@ returns-2 : tie.Need-returns-2
 returns-2 c =
     let c5 = c .before .before .before .before .before in let args = c5 .before .before .before .before .before .before .args in
     let vertex : ℕ → Vertex = vertexAt (sceneIn (args .s) (now (args .store)) (now (args .guest))) (indexList (args .kind) (now (args .list)) (now (args .elements))) in (
-      λ count e _.
-          c .before .before .write-planned .ensures
-          ∙ ap (sets (now (args .out)) 0) (ap (cornerWords (λ q. vertex (cornerPlace (args .p) q))) e ∙ corner-words vertex (args .p) count),
+      λ _. c .before .before .write-planned .ensures ∙ ap (sets (now (args .out)) 0) (corners-front vertex (args .p) (args .n)),
       λ h. absurd (omega (arith, h, c5 .if1 .left)),
     )
 

@@ -17,14 +17,14 @@ returns-2 c =
 returns-3 : tie.Need-returns-3
 returns-3 c =
     let c2 = c .before .before in let a = c2 .before .before .before .before .before .args in
-    extent-slot (a .b .slots) (now (a .store)) (now (a .guest)) (a .base) (a .buffer) (c2 .before .before .if1 .left) _ (c2 .before .find-slot .ensures) (c2 .if2 .left) _ (c .before .bytes-in-slot .ensures) _
-    (rw (eq-eqb _ _ (c .if3 .taken)))
+    extent-slot (a .b .slots) (now (a .store)) (now (a .guest)) (a .base) (a .buffer) (c2 .before .before .if1 .left) _ (c2 .before .find-slot .ensures) (c2 .if2 .left) _
+    (c .before .bytes-in-slot .ensures) _ (rw (eq-eqb _ _ (c .if3 .taken)))
 
 returns-4 : tie.Need-returns-4
 returns-4 c =
     let c2 = c .before .before in let a = c2 .before .before .before .before .before .args in
-    extent-slot (a .b .slots) (now (a .store)) (now (a .guest)) (a .base) (a .buffer) (c2 .before .before .if1 .left) _ (c2 .before .find-slot .ensures) (c2 .if2 .left) _ (c .before .bytes-in-slot .ensures) _
-    (rw (ne-eqb _ _ (c .if3 .left)))
+    extent-slot (a .b .slots) (now (a .store)) (now (a .guest)) (a .base) (a .buffer) (c2 .before .before .if1 .left) _ (c2 .before .find-slot .ensures) (c2 .if2 .left) _
+    (c .before .bytes-in-slot .ensures) _ (rw (ne-eqb _ _ (c .if3 .left)))
 
 pub find-extent-spec : {M : Type 1} → statement M
 find-extent-spec =

@@ -112,7 +112,7 @@ loop-again c =
     joined (stayed (changes (is-attribute bytes _ _ _ (z .4 .left) (z .5 .left) (z .6 .taken)) m refl)) (z .9) (z .10) (placed m (z .11)))
     (⊎-elim (λ z. let m = z .8 .ensures _ in
     joined (stayed (changes (is-pipeline bytes _ _ _ (z .4 .left) (z .5 .left) (z .6 .left) (z .7 .taken)) m refl)) (z .10) (z .11) (placed m (z .12)))
-    (⊎-elim (λ z. let m = z .9 .ensures .1 .does _ in
+    (⊎-elim (λ z. let m = z .9 .ensures .1 _ in
     joined (stayed (changes (is-take-error bytes _ _ _ (z .4 .left) (z .5 .left) (z .6 .left) (z .7 .left) (z .8 .taken)) m refl)) (z .10) (z .11) (placed m (z .12)))
     (λ z. let m = z .11 .ensures in
     joined (changes-draw (is-draw bytes _ _ _ (z .4 .left) (z .5 .left) (z .6 .left) (z .7 .left) (z .8 .left)) m, refl, z .11 .kept .1 .1 .1 .1 .1 .0)
