@@ -23,7 +23,6 @@ use Rattle.list_records.specs.declared.CallReply.{CallReply}
 use Rattle.list_words.specs.Words.{wordAt, fourFloats, matrixFloats}
 use Rattle.list_records.specs.Encoding.{updateOf, matrixOf, bufferOf, arrayCallOf, attributeOf, pipelineOf, sourceOf, drawOfWords, callOf, isRecord, recordCall}
 use Rattle.list_records.specs.Perform.{isDraw, valueOf, DrewIn, replyOf, Performed, called, drew, Performs, was-made, was-unknown}
-use Rattle.list_records.specs.PerformCode.{Gives}
 use Rattle.list_buffers.proofs.Answers.{Answers}
 
 -- ---- which group a code is of
@@ -99,8 +98,9 @@ module _ {k′ : Call} {c : Context} {out : List Float} {r : CallReply} where
       → k ≡ k′ → r ≡ replyOf n 0 c1 → Does k c n c1 → isDraw k ≡ false → 0 ≡ valueOf k c n → Performs c s out r s out (some k′)
   performs {k = k} {s = s} e q m f v = performs-is e (subst (λ (x : CallReply). Performs c s out x s out (some k)) (sym q) (was-made refl (called (m s) f v refl)))
 
-  pub performs-value : {k : Call} {s : List ℕ} → k ≡ k′ → (r .known ≡ true) × Gives k c (r .number) (r .value) (r .context) → isDraw k ≡ false → Performs c s out r s out (some k′)
-  performs-value {s = s} e g f = performs-is e (was-made (g .0) (called (g .1 .does s) f (g .1 .value-is) refl))
+  pub performs-value : {k : Call} {s : List ℕ}
+      → k ≡ k′ → (r .known ≡ true) × Does k c (r .number) (r .context) × (r .value ≡ valueOf k c (r .number)) → isDraw k ≡ false → Performs c s out r s out (some k′)
+  performs-value {s = s} e g f = performs-is e (was-made (g .0) (called (g .1 s) f (g .2) refl))
 
   pub performs-buffer : {k : BufferCall} {s s1 : List ℕ} → object (buffer k) ≡ k′ → Answers k c s r s1 → Performs c s out r s1 out (some k′)
   performs-buffer e a = performs-is e (was-made (a .0 .0) (called (a .0 .1) refl (a .1) refl))

@@ -11,7 +11,7 @@ use lib.Dec.{ltb, leb}
 use lib.ListN.{length, take, drop, length-append, length-take, length-drop, take-append-drop}
 use lib.Seq.{getD-drop, drop-drop, drop-append-le, length-take-le}
 use lib.Ieee.{Float}
-use Rattle.draw.specs.Triangles.{Triangle, wordsOf}
+use Rattle.assembly.specs.Triangles.{Triangle, wordsOf}
 use Rattle.draw.specs.Draw.{outputOf}
 use Rattle.draw.proofs.Counts.{drawn-fits}
 use Rattle.context.specs.declared.Context.{Context}

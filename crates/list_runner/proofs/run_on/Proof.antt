@@ -113,8 +113,8 @@ loop-again c =
     joined (stayed (performed (is-attribute bytes _ _ _ (z .4 .left) (z .5 .left) (z .6 .taken)) m refl refl)) (z .9) (z .10) (placed m (z .11)) (z .12) (z .13))
     (⊎-elim (λ z. let m = z .8 .ensures _ in
     joined (stayed (performed (is-pipeline bytes _ _ _ (z .4 .left) (z .5 .left) (z .6 .left) (z .7 .taken)) m refl refl)) (z .10) (z .11) (placed m (z .12)) (z .13) (z .14))
-    (⊎-elim (λ z. let m = z .9 .ensures .1 .does _ in
-    joined (stayed (performed (is-take-error bytes _ _ _ (z .4 .left) (z .5 .left) (z .6 .left) (z .7 .left) (z .8 .taken)) m refl (z .9 .ensures .1 .value-is)))
+    (⊎-elim (λ z. let m = z .9 .ensures .1 _ in
+    joined (stayed (performed (is-take-error bytes _ _ _ (z .4 .left) (z .5 .left) (z .6 .left) (z .7 .left) (z .8 .taken)) m refl (z .9 .ensures .2)))
     (z .10) (z .11) (placed m (z .12)) (z .13) (z .14))
     (λ z. let m = z .11 .ensures in
     joined (performed-draw (is-draw bytes _ _ _ (z .4 .left) (z .5 .left) (z .6 .left) (z .7 .left) (z .8 .left)) m, refl, z .11 .kept .1 .1 .1 .1 .1 .0)

@@ -1,12 +1,18 @@
 -- Triangles (01: "Draws"): their vertices, and the f32 that are written.
 use mathlib.Core.List.{List, [], _∷_, _++_}
 use Prim.Native.Nat.{ℕ, zero, suc}
+use lib.ListN.{getD}
 use lib.Ieee.{Float}
 use Rattle.corners.specs.Places.{cornersOf}
 use Rattle.corners.specs.declared.Corners.{Corners}
 use Rattle.corners.specs.declared.Primitive.{Primitive}
-use Rattle.vertex.specs.Vertex.{vertexWords}
+use Rattle.vertex.specs.Scene.{Scene}
+use Rattle.vertex.specs.Vertex.{vertexOf, vertexWords}
 use Rattle.vertex.specs.declared.Vertex.{Vertex}
+
+-- the vertex at a place of a list of indices
+abbrev pub vertexAt : Scene → List ℕ → ℕ → Vertex
+vertexAt s is place = vertexOf s (getD is place 0)
 
 pub record Triangle : Type 0 where
   pub a : Vertex

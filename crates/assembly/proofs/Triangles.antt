@@ -1,17 +1,17 @@
--- Laws of the draw rules. Assumes nothing.
+-- Laws of triangles and of their f32. Assumes nothing.
 use Prim.Native.Nat.{ℕ, zero, suc, _+_, _*_, _≤_}
 use mathlib.Core.Path.{_≡_, refl, _∙_}
 use mathlib.Core.List.{List, [], _∷_, _++_, append-nil, append-assoc}
-use native.Mathlib.Nat.{add-zero, zero-add}
+use native.Mathlib.Nat.{zero-add}
 use native.Mathlib.Numerals.{add-one}
 use native.Mathlib.Omega.{arith}
-use lib.ListN.{length, set, drop, length-append}
+use lib.ListN.{length, drop, length-append}
 use lib.Seq.{sets, sets-eq}
 use lib.Ieee.{Float}
 use Rattle.vertex.specs.Vertex.{vertexWords}
 use Rattle.vertex.specs.declared.Vertex.{Vertex}
-use Rattle.corners.specs.Places.{triangleCount, cornersOf}
-use Rattle.draw.specs.Triangles.{Triangle, threeWords, trianglesTo, wordsOf}
+use Rattle.corners.specs.Places.{cornersOf}
+use Rattle.assembly.specs.Triangles.{Triangle, threeWords, trianglesTo, wordsOf}
 use Rattle.corners.specs.declared.Primitive.{Primitive}
 
 pub words-append : (a b : List Triangle) → wordsOf (a ++ b) ≡ wordsOf a ++ wordsOf b

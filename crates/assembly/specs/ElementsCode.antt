@@ -5,7 +5,7 @@ use mathlib.Core.Logic.{_⊎_}
 use mathlib.Core.Option.{Option}
 use mathlib.Core.Path.{_≡_}
 use Prim.Native.Nat.{ℕ, _+_, _-_, _*_, _<_, _≤_}
-use lib.Dec.{eqb, ltb}
+use lib.Dec.{ltb}
 use lib.ListN.{length, take, drop}
 use Rattle.fetch.specs.Decode.{componentBytes, vectorOf}
 use Rattle.fetch.specs.Fetch.{lastAddress, elementBytes, fetched}
@@ -22,10 +22,6 @@ use Rattle.assembly.specs.declared.Prepared.{Prepared}
 -- a known type's width
 abbrev pub OneTwoFour : ℕ → Type 0
 OneTwoFour w = (w ≡ 1) ⊎ ((w ≡ 2) ⊎ (w ≡ 4))
-
--- the stride, or the element's length where it is 0; 0 for a length past 32 bits
-abbrev pub stepOf : ℕ → ℕ → ℕ
-stepOf stride len = cond (eqb stride 0) (cond (ltb lastAddress len) 0 len) stride
 
 -- why there is no element at an address
 abbrev pub missingAt : Failure → ℕ → Location
