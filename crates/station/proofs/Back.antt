@@ -26,7 +26,8 @@ use Rattle.station.specs.declared.Kept.{Kept}
 use Rattle.station.specs.declared.KeptSettings.{KeptSettings}
 use Rattle.station.specs.declared.StationReply.{StationReply}
 use Rattle.station.specs.declared.KeptReply.{KeptReply}
-use Rattle.station.specs.Kept.{modeCode, compareCode, blendCode, cullCode, faceCode, fogCode, envCode, modeFrom, compareFrom, blendFrom, cullFrom, faceFrom, fogFrom, envFrom, keptUnit, unitFrom, keptSettings, settingsFrom, keptOf, contextFrom}
+use Rattle.station.specs.Kept.{modeCode, compareCode, blendCode, cullCode, faceCode, fogCode, envCode, modeFrom, compareFrom, blendFrom, cullFrom, faceFrom, fogFrom}
+use Rattle.station.specs.Kept.{envFrom, keptUnit, unitFrom, keptSettings, settingsFrom, keptOf, contextFrom}
 use Rattle.station.specs.Boundary.{Encodes, FreshKept, Refused, Made, Ran}
 use Rattle.station.specs.BoundaryCode.{refusalOf, answerIn}
 
@@ -89,7 +90,16 @@ units-back (u ∷ us) = rw (unit-back u, units-back us)
 settings-back : (p : Pipeline) → settingsFrom (keptSettings p) ≡ p
 unfolding settingsFrom keptSettings
 settings-back p =
-    rw (units-back (p .units), compare-back (p .depth .func), compare-back (p .alpha .func), blend-back (p .blend .src), blend-back (p .blend .dst), cull-back (p .cull .mode), face-back (p .«front_face»), fog-back (p .fog .mode))
+    rw (
+      units-back (p .units),
+      compare-back (p .depth .func),
+      compare-back (p .alpha .func),
+      blend-back (p .blend .src),
+      blend-back (p .blend .dst),
+      cull-back (p .cull .mode),
+      face-back (p .«front_face»),
+      fog-back (p .fog .mode),
+    )
 
 pub back : (c : Context) → contextFrom (keptOf c) ≡ c
 back c = rw (mode-back (c .mode), settings-back (c .pipeline))
@@ -101,7 +111,16 @@ encodes c = ap keptOf (back c)
 
 -- the numbers of a fresh context, with the fresh settings
 pub fresh-kept : {c : Context} {settings : KeptSettings} → Fresh c → settings ≡ keptSettings freshPipeline
-    → FreshKept (record { mode = modeCode MatrixMode.Modelview; stacks = c .stacks; buffers = c .buffers; arrays = c .arrays; attributes = c .attributes; settings = settings; error = 0 })
+    → FreshKept (record {
+      mode = modeCode MatrixMode.Modelview;
+      stacks = c .stacks;
+      buffers = c .buffers;
+      arrays = c .arrays;
+      attributes = c .attributes;
+      settings =
+          settings;
+      error = 0;
+    })
 fresh-kept {c = c} {settings = settings} f e =
     let state = f .state [] in
     let m : modeCode (c .mode) ≡ modeCode MatrixMode.Modelview = ap (λ (x : State). modeCode (x .mode)) state in
@@ -112,7 +131,8 @@ fresh-kept {c = c} {settings = settings} f e =
     (record { fresh = subst⁻¹ Fresh (back c) f; encodes = encodes c })
 
 pub had-run : {k : Kept} {s words bytes : List ℕ} {out : List Float} {c : Context} {l : ListReply} {r : StationReply} {k1 : Kept} {s1 : List ℕ} {out1 : List Float}
-    → Encodes k → c ≡ contextFrom k → MakesList c words bytes s out l s1 out1 → r ≡ answerIn (eqb (l .read) (length words)) (l .number) (l .value) (l .made) → k1 ≡ keptOf (l .context)
+    → Encodes k → c ≡ contextFrom k → MakesList c words bytes s out l s1 out1 → r ≡ answerIn (eqb (l .read) (length words)) (l .number) (l .value) (l .made)
+    → k1 ≡ keptOf (l .context)
     → Ran k s words bytes out r k1 s1 out1
 had-run {s = s} {words = words} {bytes = bytes} {out = out} {l = l} {s1 = s1} {out1 = out1} is e p a e1 =
     record {

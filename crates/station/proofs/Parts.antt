@@ -12,7 +12,8 @@ use Rattle.context.proofs.Entries.{part-unsound}
 use Rattle.station.specs.declared.KeptUnit.{KeptUnit}
 use Rattle.station.specs.declared.KeptSettings.{KeptSettings}
 use Rattle.station.specs.declared.Kept.{Kept}
-use Rattle.station.specs.Kept.{modeCode, compareCode, blendCode, cullCode, faceCode, fogCode, envCode, modeFrom, compareFrom, blendFrom, cullFrom, faceFrom, fogFrom, envFrom, keptUnit, unitFrom, keptSettings, settingsFrom}
+use Rattle.station.specs.Kept.{modeCode, compareCode, blendCode, cullCode, faceCode, fogCode, envCode, modeFrom, compareFrom, blendFrom, cullFrom, faceFrom, fogFrom}
+use Rattle.station.specs.Kept.{envFrom, keptUnit, unitFrom, keptSettings, settingsFrom}
 use Rattle.station.specs.Boundary.{Encodes}
 use Rattle.station.specs.BoundaryCode.{PartsEncode}
 
@@ -37,7 +38,8 @@ each-unit (u ∷ us) d (suc i) h e = each-unit us d i (omega (arith, h)) (ap (dr
 unit-same : (u : KeptUnit) → UnitEncodes u → keptUnit (unitFrom u) ≡ u
 unit-same u h = rw h
 
-all-units : (us : List KeptUnit) (d : KeptUnit) → length us ≡ 4 → UnitEncodes (getD us 0 d) → UnitEncodes (getD us 1 d) → UnitEncodes (getD us 2 d) → UnitEncodes (getD us 3 d) → map keptUnit (map unitFrom us) ≡ us
+all-units : (us : List KeptUnit) (d : KeptUnit) → length us ≡ 4 → UnitEncodes (getD us 0 d) → UnitEncodes (getD us 1 d) → UnitEncodes (getD us 2 d)
+    → UnitEncodes (getD us 3 d) → map keptUnit (map unitFrom us) ≡ us
 all-units (a ∷ b ∷ c ∷ e ∷ []) d h p q r s = rw (unit-same a p, unit-same b q, unit-same c r, unit-same e s)
 all-units [] d h p q r s = absurd (omega (arith, h))
 all-units (a ∷ []) d h p q r s = absurd (omega (arith, h))
@@ -45,7 +47,8 @@ all-units (a ∷ b ∷ []) d h p q r s = absurd (omega (arith, h))
 all-units (a ∷ b ∷ c ∷ []) d h p q r s = absurd (omega (arith, h))
 all-units (a ∷ b ∷ c ∷ e ∷ g ∷ l) d h p q r s = absurd (omega (arith, h))
 
-pub last-unit : (us : List KeptUnit) (d : KeptUnit) {b : Bool} → length us ≡ 4 → UnitEncodes (getD us 0 d) → UnitEncodes (getD us 1 d) → UnitEncodes (getD us 2 d) → Decides (UnitEncodes (getD us 3 d)) b → Decides (map keptUnit (map unitFrom us) ≡ us) b
+pub last-unit : (us : List KeptUnit) (d : KeptUnit) {b : Bool} → length us ≡ 4 → UnitEncodes (getD us 0 d) → UnitEncodes (getD us 1 d) → UnitEncodes (getD us 2 d)
+    → Decides (UnitEncodes (getD us 3 d)) b → Decides (map keptUnit (map unitFrom us) ≡ us) b
 last-unit us d four p q r s = record { yes = λ t. all-units us d four p q r (s .yes t); no = λ f h. s .no f (each-unit us d 3 (omega (arith, four)) h) }
 
 -- ---- the settings
@@ -86,13 +89,17 @@ module _ (k : KeptSettings) where
   unfolding keptSettings settingsFrom
   units h = ap (λ (x : KeptSettings). x .units) h
 
-  all-settings : compareCode (compareFrom (k .«depth_func»)) ≡ k .«depth_func» → compareCode (compareFrom (k .«alpha_func»)) ≡ k .«alpha_func» → blendCode (blendFrom (k .src)) ≡ k .src → blendCode (blendFrom (k .dst)) ≡ k .dst
-      → cullCode (cullFrom (k .«cull_mode»)) ≡ k .«cull_mode» → faceCode (faceFrom (k .«front_face»)) ≡ k .«front_face» → fogCode (fogFrom (k .«fog_mode»)) ≡ k .«fog_mode» → map keptUnit (map unitFrom (k .units)) ≡ k .units → SettingsEncode
+  all-settings : compareCode (compareFrom (k .«depth_func»)) ≡ k .«depth_func» → compareCode (compareFrom (k .«alpha_func»)) ≡ k .«alpha_func»
+      → blendCode (blendFrom (k .src)) ≡ k .src → blendCode (blendFrom (k .dst)) ≡ k .dst
+      → cullCode (cullFrom (k .«cull_mode»)) ≡ k .«cull_mode» → faceCode (faceFrom (k .«front_face»)) ≡ k .«front_face» → fogCode (fogFrom (k .«fog_mode»)) ≡ k .«fog_mode»
+      → map keptUnit (map unitFrom (k .units)) ≡ k .units → SettingsEncode
   unfolding keptSettings settingsFrom
   all-settings d a s t c f g u = rw (d, a, s, t, c, f, g, u)
 
-  pub last-setting : {b : Bool} → compareCode (compareFrom (k .«depth_func»)) ≡ k .«depth_func» → compareCode (compareFrom (k .«alpha_func»)) ≡ k .«alpha_func» → blendCode (blendFrom (k .src)) ≡ k .src → blendCode (blendFrom (k .dst)) ≡ k .dst
-      → cullCode (cullFrom (k .«cull_mode»)) ≡ k .«cull_mode» → faceCode (faceFrom (k .«front_face»)) ≡ k .«front_face» → fogCode (fogFrom (k .«fog_mode»)) ≡ k .«fog_mode» → Decides (map keptUnit (map unitFrom (k .units)) ≡ k .units) b → Decides SettingsEncode b
+  pub last-setting : {b : Bool} → compareCode (compareFrom (k .«depth_func»)) ≡ k .«depth_func» → compareCode (compareFrom (k .«alpha_func»)) ≡ k .«alpha_func»
+      → blendCode (blendFrom (k .src)) ≡ k .src → blendCode (blendFrom (k .dst)) ≡ k .dst
+      → cullCode (cullFrom (k .«cull_mode»)) ≡ k .«cull_mode» → faceCode (faceFrom (k .«front_face»)) ≡ k .«front_face» → fogCode (fogFrom (k .«fog_mode»)) ≡ k .«fog_mode»
+      → Decides (map keptUnit (map unitFrom (k .units)) ≡ k .units) b → Decides SettingsEncode b
   last-setting d a s t c f g u = record { yes = λ e. all-settings d a s t c f g (u .yes e); no = λ e h. u .no e (units h) }
 
 -- ---- the context

@@ -22,7 +22,8 @@ use pipeline::TexEnvMode;
 use pipeline::TextureUnit;
 ghost use mathlib.Core.Path.{_≡_};
 ghost use mathlib.Core.List.{map};
-ghost use Rattle.station.specs.Kept.{modeCode, compareCode, blendCode, cullCode, faceCode, fogCode, envCode, modeFrom, compareFrom, blendFrom, cullFrom, faceFrom, fogFrom, envFrom, keptUnit, unitFrom, keptSettings, settingsFrom, keptOf, contextFrom};
+ghost use Rattle.station.specs.Kept.{modeCode, compareCode, blendCode, cullCode, faceCode, fogCode, envCode, modeFrom, compareFrom, blendFrom, cullFrom, faceFrom};
+ghost use Rattle.station.specs.Kept.{fogFrom, envFrom, keptUnit, unitFrom, keptSettings, settingsFrom, keptOf, contextFrom};
 ghost use Rattle.number.specs.Decides.{Decides};
 ghost use Rattle.pipeline.specs.Pipeline.{freshPipeline};
 ghost use Rattle.station.specs.Boundary.{layout, FreshKept, Ran};
@@ -684,7 +685,8 @@ pub extern "C" fn beonasul_run(
     bytes: &[u8],
     out: &mut [f32],
 ) -> StationReply
-    ensures { λ r. ⌜ Ran (now (kept .entry)) (now (store .entry)) (now (words .entry)) (now (bytes .entry)) (now (out .entry)) r (now (kept .exit)) (now (store .exit)) (now (out .exit)) ⌝ }
+    ensures { λ r. ⌜ Ran (now (kept .entry)) (now (store .entry)) (now (words .entry)) (now (bytes .entry)) (now (out .entry)) r (now (kept .exit)) (now (store .exit))
+        (now (out .exit)) ⌝ }
 {
     let a = run(*kept, store, words, bytes, out);
     *kept = a.kept;

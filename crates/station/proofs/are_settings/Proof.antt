@@ -26,7 +26,17 @@ returns-7 : tie.Need-returns-7
 returns-7 c = refuses (c .before .is-fog .ensures) (not-true _ (c .if7 .taken)) (fog-mode _)
 
 returns-8 : tie.Need-returns-8
-returns-8 c = last-setting _ (c .before .before .before .before .before .before .before .before .before .before .before .before .before .before .before .is-compare .ensures .yes (not-false _ (c .before .before .before .before .before .before .before .before .before .before .before .before .before .before .if1 .left))) (c .before .before .before .before .before .before .before .before .before .before .before .before .before .is-compare2 .ensures .yes (not-false _ (c .before .before .before .before .before .before .before .before .before .before .before .before .if2 .left))) (c .before .before .before .before .before .before .before .before .before .before .before .is-blend .ensures .yes (not-false _ (c .before .before .before .before .before .before .before .before .before .before .if3 .left))) (c .before .before .before .before .before .before .before .before .before .is-blend2 .ensures .yes (not-false _ (c .before .before .before .before .before .before .before .before .if4 .left))) (c .before .before .before .before .before .before .before .is-cull .ensures .yes (not-false _ (c .before .before .before .before .before .before .if5 .left))) (c .before .before .before .before .before .is-face .ensures .yes (not-false _ (c .before .before .before .before .if6 .left))) (c .before .before .before .is-fog .ensures .yes (not-false _ (c .before .before .if7 .left))) (c .are-units .ensures)
+returns-8 c = last-setting _ (c .before .before .before .before .before .before .before .before .before .before .before .before .before .before .before .is-compare .ensures
+    .yes (not-false _ (c .before .before .before .before .before .before .before .before .before .before .before .before .before .before .if1 .left)))
+    (c .before .before .before .before .before .before .before .before .before .before .before .before .before .is-compare2 .ensures .yes (not-false _ (c .before .before
+    .before .before .before .before .before .before .before .before .before .before .if2 .left)))
+    (c .before .before .before .before .before .before .before .before .before .before .before .is-blend .ensures .yes (not-false _ (c .before .before .before
+    .before .before .before .before .before .before .before .if3 .left)))
+    (c .before .before .before .before .before .before .before .before .before .is-blend2 .ensures .yes (not-false _ (c .before .before .before .before
+    .before .before .before .before .if4 .left))) (c .before .before .before .before .before .before .before .is-cull .ensures .yes (not-false _ (c
+    .before .before .before .before .before .before .if5 .left))) (c .before .before .before .before .before .is-face .ensures .yes (not-false _ (c
+    .before .before .before .before .if6 .left))) (c .before .before .before .is-fog .ensures .yes (not-false _ (c .before .before .if7
+    .left))) (c .are-units .ensures)
 
 pub are-settings-spec : {M : Type 1} → statement M
 are-settings-spec =

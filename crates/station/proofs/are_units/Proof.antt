@@ -30,7 +30,9 @@ returns-4 : tie.Need-returns-4
 returns-4 c =
     let us = c .before .before .before .before .before .before .before .before .before .before .before .args .t1 in
     let four : length us ≡ 4 = search (length-mapped, needs) in
-    last-unit us _ four (c .before .before .before .before .before .before .before .before .before .is-env .ensures .yes (not-false _ (c .before .before .before .before .before .before .before .before .if1 .left))) (c .before .before .before .before .before .before .is-env2 .ensures .yes (not-false _ (c .before .before .before .before .before .if2 .left))) (c .before .before .before .is-env3 .ensures .yes (not-false _ (c .before .before .if3 .left))) (c .is-env4 .ensures)
+    last-unit us _ four (c .before .before .before .before .before .before .before .before .before .is-env .ensures .yes (not-false _ (c .before .before .before .before
+    .before .before .before .before .if1 .left))) (c .before .before .before .before .before .before .is-env2 .ensures .yes (not-false _ (c .before .before .before .before
+    .before .if2 .left))) (c .before .before .before .is-env3 .ensures .yes (not-false _ (c .before .before .if3 .left))) (c .is-env4 .ensures)
 
 pub are-units-spec : {M : Type 1} → statement M
 are-units-spec =

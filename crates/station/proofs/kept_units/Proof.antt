@@ -11,7 +11,8 @@ returns : tie.Need-returns
 returns c =
     let us = c .before .before .before .before .before .before .before .before .args .t1 in
     let four : length us ≡ 4 = search (length-mapped, needs) in
-    four-mapped keptUnit us _ four (c .before .before .before .kept-unit .ensures) (c .before .before .kept-unit2 .ensures) (c .before .kept-unit3 .ensures) (c .kept-unit4 .ensures)
+    four-mapped keptUnit us _ four (c .before .before .before .kept-unit .ensures) (c .before .before .kept-unit2 .ensures) (c .before .kept-unit3 .ensures)
+    (c .kept-unit4 .ensures)
 
 pub kept-units-spec : {M : Type 1} → statement M
 kept-units-spec =

@@ -5,7 +5,16 @@ use Rattle.station.proofs.settings_from.Tie as tie
 
 returns : tie.Need-returns
 unfolding settingsFrom
-returns c = rw (c .before .before .before .before .before .before .before .units-from .ensures, c .before .before .before .before .before .before .compare-from .ensures, c .before .before .before .before .before .compare-from2 .ensures, c .before .before .before .before .blend-from .ensures, c .before .before .before .blend-from2 .ensures, c .before .before .cull-from .ensures, c .before .face-from .ensures, c .fog-from .ensures)
+returns c = rw (
+  c .before .before .before .before .before .before .before .units-from .ensures,
+  c .before .before .before .before .before .before .compare-from .ensures,
+  c .before .before .before .before .before .compare-from2 .ensures,
+  c .before .before .before .before .blend-from .ensures,
+  c .before .before .before .blend-from2 .ensures,
+  c .before .before .cull-from .ensures,
+  c .before .face-from .ensures,
+  c .fog-from .ensures,
+)
 
 pub settings-from-spec : {M : Type 1} → statement M
 settings-from-spec =

@@ -11,7 +11,8 @@ returns : tie.Need-returns
 returns c =
     let us = c .before .before .before .before .before .before .before .before .args .t1 in
     let four : length us ≡ 4 = search (length-mapped, needs) in
-    four-mapped unitFrom us _ four (c .before .before .before .unit-from .ensures) (c .before .before .unit-from2 .ensures) (c .before .unit-from3 .ensures) (c .unit-from4 .ensures)
+    four-mapped unitFrom us _ four (c .before .before .before .unit-from .ensures) (c .before .before .unit-from2 .ensures) (c .before .unit-from3 .ensures)
+    (c .unit-from4 .ensures)
 
 pub units-from-spec : {M : Type 1} → statement M
 units-from-spec =
