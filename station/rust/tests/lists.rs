@@ -195,8 +195,10 @@ fn the_reply_is_that_of_the_last_call() {
 fn a_cleared_list_has_no_guest_memory() {
     let (mut context, mut store) = with_square();
     let mut list = List::new();
-    list.guest(SQUARE.base, SQUARE.bytes).clear();
-    list.draw_arrays(TRIANGLES, 0, 0, 3);
+    list.guest(SQUARE.base, SQUARE.bytes).rotate(1.0, 1.0, 0.0, 0.0).clear();
+    assert!(list.is_empty());
+    // The list has as many bytes again, but no guest memory.
+    list.buffer_sub_data(ARRAY_BUFFER, 0, SQUARE.bytes).draw_arrays(TRIANGLES, 0, 0, 3);
     let reply = context.run(&mut store, &list, &mut [0.0; 51]);
-    assert_eq!(reply.result(), Err(Error::PositionUnreadable));
+    assert_eq!((reply.made, reply.result()), (2, Err(Error::PositionUnreadable)));
 }
