@@ -2,6 +2,7 @@
 
 use std::env;
 use std::path::{Path, PathBuf};
+use std::process::exit;
 
 /// In the repository it is libstation.a, installed libbeonasul.a.
 const NAMES: [&str; 2] = ["station", "beonasul"];
@@ -23,12 +24,14 @@ fn main() {
     let folders = folders();
     let places = folders.iter().flat_map(|folder| NAMES.map(|name| (folder, name)));
     let Some((folder, name)) = places.into_iter().find(|(f, n)| file(f, n).is_file()) else {
-        panic!(
+        eprintln!(
             "libstation.a is in none of {folders:?}: make it by `rt staticlib station` in the \
              repository, or name its folder in BEONASUL_LIB"
         );
+        exit(1);
     };
-    println!("cargo:rerun-if-changed={}", file(folder, name).display());
+    let folder = folder.canonicalize().expect("the folder is there");
+    println!("cargo:rerun-if-changed={}", file(&folder, name).display());
     println!("cargo:rustc-link-search=native={}", folder.display());
     println!("cargo:rustc-link-lib=static={name}");
 }

@@ -84,11 +84,22 @@ pub(crate) use calls;
 pub(crate) mod code {
     pub const MULT: u32 = 0x13;
     pub const ROTATE: u32 = 0x18;
+    pub const GEN: u32 = 0x20;
+    pub const DELETE: u32 = 0x22;
     pub const BUFFER_DATA: u32 = 0x23;
     pub const BUFFER_SUB_DATA: u32 = 0x24;
     pub const DRAW_ELEMENTS: u32 = 0x60;
     pub const DRAW_ARRAYS: u32 = 0x61;
     pub const DRAW_ELEMENTS_FROM_GUEST: u32 = 0x62;
+}
+
+/// Whether the call writes a buffer.
+pub(crate) fn is_upload(code: u32) -> bool {
+    matches!(code, code::BUFFER_DATA | code::BUFFER_SUB_DATA)
+}
+
+pub(crate) fn is_draw(code: u32) -> bool {
+    matches!(code, code::DRAW_ELEMENTS | code::DRAW_ARRAYS | code::DRAW_ELEMENTS_FROM_GUEST)
 }
 
 /// An argument of a call, as the words of a record.

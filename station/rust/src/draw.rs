@@ -2,7 +2,7 @@
 
 use crate::calls::{append_draw, Drawn, Indices, Part};
 use crate::context::Context;
-use crate::ffi;
+use crate::recorder::Made;
 use crate::store::Store;
 use crate::{Error, Result};
 use std::iter::FusedIterator;
@@ -231,6 +231,7 @@ impl Context {
     ) -> Result<Triangles<'_>> {
         self.put_draw(guest, mode, stages, indices);
         let need = triangle_count(mode, indices.count());
+        self.tell_draw(store, guest, need.saturating_mul(TRIANGLE_FLOATS));
         let mut answer = self.draw_once(store, guest);
         if answer == Err(Error::OutputTooShort) && grow(&mut self.out, need) {
             answer = self.draw_once(store, guest);
@@ -239,10 +240,16 @@ impl Context {
         Ok(Triangles { rest: self.out[..count].iter() })
     }
 
+    /// Tells the recorder of the draw that was put together.
+    fn tell_draw(&mut self, store: &Store, guest: Guest, room: usize) {
+        let (bytes, stamp) = (guest.bytes, Some(store.stamp()));
+        self.caller.tell(Made { bytes, stamp, room, ..Made::new(&self.words) });
+    }
+
     /// Makes the draw that was put together, with the output that there is.
     fn draw_once(&mut self, store: &mut Store, guest: Guest) -> Result<usize> {
         let out = floats_mut(&mut self.out);
-        ffi::run(&mut self.state, store.bytes(), &self.words, guest.bytes, out).result()
+        self.caller.draw(&self.words, store, guest.bytes, out).result()
     }
 
     fn draw_into(
@@ -255,6 +262,7 @@ impl Context {
         out: &mut [f32],
     ) -> Result<usize> {
         self.put_draw(guest, mode, stages, indices);
-        ffi::run(&mut self.state, store.bytes(), &self.words, guest.bytes, out).result()
+        self.tell_draw(store, guest, out.len());
+        self.caller.draw(&self.words, store, guest.bytes, out).result()
     }
 }

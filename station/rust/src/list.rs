@@ -9,6 +9,20 @@ use crate::calls::{
 ///
 /// The list holds the bytes that its calls borrow. Draws read the guest memory that was put in by
 /// [`guest`](List::guest) last before them.
+///
+/// ```
+/// use beonasul::{Context, List, Store, Triangle};
+///
+/// let (mut context, mut store) = (Context::new(), Store::new());
+/// let mut list = List::new();
+/// list.set_vertex_pointer(2, 0x1400, 0, 4096).set_client_state(0x8074, true);
+/// list.guest(4096, &[0, 0, 1, 0, 0, 1]).translate(1.0, 0.0, 0.0).draw_arrays(4, 0, 0, 3);
+/// let mut out = [0.0; 51];
+/// let reply = context.run(&mut store, &list, &mut out);
+/// assert_eq!((reply.made, reply.result()?), (4, 1));
+/// assert_eq!(Triangle::slice_of(&out)[0].vertices[1].position, [2.0, 0.0, 0.0, 1.0]);
+/// # Ok::<(), beonasul::Error>(())
+/// ```
 #[derive(Clone, Debug, Default)]
 pub struct List {
     words: Vec<u32>,
@@ -16,6 +30,8 @@ pub struct List {
     base: u32,
     guest: Part,
     calls: usize,
+    /// Where in the words a rotation stands, and the angle and axis that it was made from.
+    rotations: Vec<(usize, [f32; 4])>,
 }
 
 impl List {
@@ -52,6 +68,7 @@ impl List {
 
     /// `glRotatef`, as [`Context::rotate`](crate::Context::rotate).
     pub fn rotate(&mut self, angle: f32, x: f32, y: f32, z: f32) -> &mut Self {
+        self.rotations.push((self.words.len(), [angle, x, y, z]));
         Rotation::new(angle, [x, y, z]).append(&mut self.words);
         self.count()
     }
@@ -104,6 +121,17 @@ impl List {
 
     pub(crate) fn bytes(&self) -> &[u8] {
         &self.bytes
+    }
+
+    /// The record of each call, with the angle and axis of a rotation.
+    pub(crate) fn records(&self) -> impl Iterator<Item = (&[u32], Option<[f32; 4]>)> {
+        let (mut at, mut rotations) = (0, self.rotations.iter().peekable());
+        (0..self.calls).map(move |_| {
+            let from = at;
+            at += 2 + self.words[from + 1] as usize;
+            let rotation = rotations.next_if(|(place, _)| *place == from);
+            (&self.words[from..at], rotation.map(|(_, asked)| *asked))
+        })
     }
 
     fn draw(&mut self, mode: u32, stages: u32, indices: Indices) -> &mut Self {

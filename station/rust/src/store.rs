@@ -15,6 +15,13 @@ struct Area([u8; STORE_BYTES]);
 ///
 /// It is lent to the calls that read or write buffers. A context's buffers are in the one store
 /// that it was always lent; two contexts need two stores.
+///
+/// As a context it may go to another thread, but no two threads may share one.
+///
+/// ```compile_fail,E0277
+/// fn is_sync<T: Sync>() {}
+/// is_sync::<beonasul::Store>();
+/// ```
 pub struct Store {
     area: Box<Area>,
     stamp: u64,

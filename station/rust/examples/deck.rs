@@ -1,0 +1,183 @@
+//! `deck TRACE [RECORDING]`: makes the calls of a trace (docs/TRACE.md), for example those of the
+//! sample deck, and prints their answers as the program `replay` does. With a second file it
+//! records what it does there.
+//!
+//! A trace has more than the calls of a context: stacks lent from outside and state printed are
+//! left out, with their answers; it stops at an unsound context and at a store of another length.
+
+mod trace;
+
+use beonasul::{Context, Error, Guest, Result, Store};
+use std::fs::{self, File};
+use std::io::{self, BufWriter, Write};
+use trace::{code, Record};
+
+type Outcome<T = ()> = std::result::Result<T, Box<dyn std::error::Error>>;
+
+/// What a trace's calls work on.
+struct Viewer {
+    context: Context,
+    store: Store,
+    base: u32,
+    guest: Vec<u8>,
+    out: Vec<f32>,
+}
+
+/// Number and value of a call.
+fn answer(result: Result<u32>) -> [u32; 2] {
+    result.map_or_else(|error| [error.number(), 0], |value| [0, value])
+}
+
+impl Viewer {
+    fn new() -> Self {
+        let (context, store) = (Context::new(), Store::new());
+        Viewer { context, store, base: 0, guest: Vec::new(), out: Vec::new() }
+    }
+
+    fn play(&mut self, r: &Record, page: &mut impl Write) -> Outcome {
+        match r.code {
+            code::FRESH => {
+                self.context.reset();
+                trace::line(page, r.code, &[0])?;
+            }
+            code::GUEST | code::GUEST_FILL | code::GUEST_BASE => self.set_guest(r),
+            code::STORE_LEN if r.words[0] == 65_536 => {}
+            code::STORE_LEN | code::UNSOUND => return Err("the crate has no such record".into()),
+            code::META..=code::STORE_BYTES | code::STACK_SET..=code::DUMP => {}
+            code::DRAW_LIST..=code::DRAW_GUEST => {
+                let [number, count] = answer(self.draw(r).map(|count| count as u32));
+                trace::line(page, r.code, &[number, count])?;
+                trace::triangles(page, &self.out, count as usize)?;
+            }
+            code::GEN => {
+                trace::line(page, r.code, &answer(self.context.gen_buffers(r.words[0] as usize)))?
+            }
+            code::TAKE_ERROR => trace::line(page, r.code, &answer(self.context.take_error()))?,
+            _ => {
+                let number = self.call(r).err().map_or(0, Error::number);
+                trace::line(page, r.code, &[number])?;
+            }
+        }
+        Ok(())
+    }
+
+    fn set_guest(&mut self, r: &Record) {
+        self.base = r.words[0];
+        match r.code {
+            code::GUEST => self.guest = r.bytes(1),
+            code::GUEST_FILL => self.guest = trace::filled(r.words[1], r.words[2]),
+            _ => {}
+        }
+    }
+
+    /// A call that answers a number alone.
+    fn call(&mut self, r: &Record) -> Result<()> {
+        match r.code {
+            code::MATRIX_MODE..=code::ORTHO => self.matrix(r),
+            code::BIND..=code::BUFFER_SUB_DATA => self.buffer(r),
+            code::VERTEX_POINTER..=code::MULTI_TEXCOORD => self.array(r),
+            _ => self.setting(r),
+        }
+    }
+
+    fn matrix(&mut self, r: &Record) -> Result<()> {
+        let context = &mut self.context;
+        match r.code {
+            code::MATRIX_MODE => context.set_matrix_mode(r.words[0]),
+            code::LOAD_IDENTITY => context.load_identity(),
+            code::LOAD => context.load_matrix(r.floats(0)),
+            code::MULT => context.mult_matrix(r.floats(0)),
+            code::PUSH => context.push_matrix(),
+            code::POP => context.pop_matrix(),
+            code::TRANSLATE => context.translate(r.float(0), r.float(1), r.float(2)),
+            code::SCALE => context.scale(r.float(0), r.float(1), r.float(2)),
+            code::ROTATE => context.rotate(r.float(5), r.float(6), r.float(7), r.float(8)),
+            code::ROTATE_ZERO => context.rotate(r.float(0), r.float(1), r.float(2), r.float(3)),
+            code => {
+                let [left, right, bottom, top, near, far] = r.floats(0);
+                if code == code::FRUSTUM {
+                    return context.frustum(left, right, bottom, top, near, far);
+                }
+                context.ortho(left, right, bottom, top, near, far)
+            }
+        }
+    }
+
+    fn buffer(&mut self, r: &Record) -> Result<()> {
+        let (context, store, w) = (&mut self.context, &mut self.store, &r.words);
+        match r.code {
+            code::BIND => context.bind_buffer(w[0], w[1]),
+            code::DELETE => context.delete_buffers(&w[1..]),
+            code::BUFFER_DATA => {
+                let data = r.bytes(4);
+                let data = (w[3] == 1).then_some(&data[..]);
+                context.buffer_data(store, w[0], w[1] as usize, data, w[2])
+            }
+            _ => context.buffer_sub_data(store, w[0], w[1], &r.bytes(2)),
+        }
+    }
+
+    fn array(&mut self, r: &Record) -> Result<()> {
+        let (context, w) = (&mut self.context, &r.words);
+        match r.code {
+            code::VERTEX_POINTER => context.set_vertex_pointer(w[0], w[1], w[2], w[3]),
+            code::COLOR_POINTER => context.set_color_pointer(w[0], w[1], w[2], w[3]),
+            code::NORMAL_POINTER => context.set_normal_pointer(w[0], w[1], w[2]),
+            code::TEXCOORD_POINTER => context.set_texcoord_pointer(w[0], w[1], w[2], w[3]),
+            code::CLIENT_STATE => context.set_client_state(w[0], w[1] == 1),
+            code::CLIENT_UNIT => context.set_client_active_texture(w[0]),
+            code::COLOR => context.set_color(r.floats(0)),
+            _ => context.set_multi_texcoord(w[0], r.float(1), r.float(2)),
+        }
+    }
+
+    fn setting(&mut self, r: &Record) -> Result<()> {
+        let (context, w) = (&mut self.context, &r.words);
+        match r.code {
+            code::ACTIVE_UNIT => context.set_active_texture(w[0]),
+            code::CAPABILITY => context.set_capability(w[0], w[1] == 1),
+            code::TEX_ENV => context.tex_env(w[0], w[1]),
+            code::TEX_ENV_COLOR => context.set_tex_env_color(r.floats(0)),
+            code::DEPTH_FUNC => context.set_depth_func(w[0]),
+            code::ALPHA_FUNC => context.set_alpha_func(w[0], r.float(1)),
+            code::BLEND_FUNC => context.set_blend_func(w[0], w[1]),
+            code::CULL_FACE => context.set_cull_face(w[0]),
+            code::FRONT_FACE => context.set_front_face(w[0]),
+            code::FOG => context.set_fog(w[0], r.float(1)),
+            _ => context.set_depth_range(r.float(0), r.float(1)),
+        }
+    }
+
+    /// A draw, into an output of the length that the trace says.
+    fn draw(&mut self, r: &Record) -> Result<usize> {
+        let Viewer { context, store, base, guest, out } = self;
+        let (guest, w) = (Guest { base: *base, bytes: guest }, &r.words);
+        out.clear();
+        out.extend((0..w[2] as usize).map(trace::mark));
+        let (mode, stages) = (w[0], w[1]);
+        match r.code {
+            code::DRAW_LIST => context.draw_elements_into(store, guest, mode, stages, &w[4..], out),
+            code::DRAW_ARRAYS => {
+                context.draw_arrays_into(store, guest, mode, stages, w[3], w[4], out)
+            }
+            _ => context
+                .draw_elements_from_guest_into(store, guest, mode, stages, w[3], w[4], w[5], out),
+        }
+    }
+}
+
+fn main() -> Outcome {
+    let mut arguments = std::env::args_os().skip(1);
+    let trace = arguments.next().ok_or("usage: deck TRACE [RECORDING]")?;
+    let records = trace::read(&fs::read(trace)?).ok_or("the trace is damaged")?;
+    let mut viewer = Viewer::new();
+    if let Some(recording) = arguments.next() {
+        viewer.context.record(BufWriter::new(File::create(recording)?))?;
+    }
+    let mut page = BufWriter::new(io::stdout().lock());
+    for record in &records {
+        viewer.play(record, &mut page)?;
+    }
+    viewer.context.stop_recording()?;
+    Ok(page.flush()?)
+}
