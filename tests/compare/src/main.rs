@@ -15,6 +15,7 @@ mod model;
 mod oracle;
 mod random;
 mod replay;
+mod station;
 mod sweep;
 #[cfg(test)]
 mod tests;
@@ -30,6 +31,7 @@ compare oracle < TRACE
 compare model [--fault FAULT] < TRACE
 compare show < TRACE
 compare compare SEED COUNT --replay PATH
+compare station SEED COUNT [--holes PERIOD LENGTH] --program PATH [ARGUMENT..]
 compare self SEED COUNT
 compare faults [SEED COUNT]
 compare coverage SEED COUNT
@@ -63,7 +65,17 @@ fn run(arguments: &[&str]) -> Option<bool> {
         }
         ["show"] => print(&commands::shown(&input())),
         ["compare", seed, count, "--replay", path] => {
-            replay::compare(number(seed)?, number(count)?, path)
+            commands::compare(number(seed)?, number(count)?, path)
+        }
+        ["station", seed, count, "--program", ref program @ ..] if !program.is_empty() => {
+            station::compare(number(seed)?, number(count)?, program, None)
+        }
+        ["station", seed, count, "--holes", period, length, "--program", ref program @ ..]
+            if !program.is_empty() =>
+        {
+            let (period, length) = (period.parse().ok()?, length.parse().ok()?);
+            let holes = oracle::Holes { period, length };
+            station::compare(number(seed)?, number(count)?, program, Some(holes))
         }
         ["self"] => commands::compare_self(1, 1000),
         ["self", seed, count] => commands::compare_self(number(seed)?, number(count)?),

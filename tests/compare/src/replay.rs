@@ -324,5 +324,7 @@ fn run(trial: &Trial, batches: Receiver<Batch>, counts: &mut Counts, all: u64) {
         }
         counts.tell(all);
     }
-    println!("unsound contexts that the program does not make: {unmade}");
+    if counts.unsound > 0 {
+        println!("unsound contexts that the program does not make: {unmade}");
+    }
 }
