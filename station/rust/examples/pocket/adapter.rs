@@ -263,9 +263,9 @@ impl Context {
     fn arrays_read(&self, indices: &Indices) -> Vec<(Kind, ArrayPointer)> {
         let position = self.state().arrays.vertex;
         let ready = position.enabled && (position.buffer != 0 || position.pointer != 0);
-        let held = indices.bounds.is_some_and(|(_, greatest)| {
-            position.buffer == 0 || self.holds(&position, greatest)
-        });
+        let held = indices
+            .bounds
+            .is_some_and(|(_, greatest)| position.buffer == 0 || self.holds(&position, greatest));
         if !ready || !held || self.stages >= 16 {
             return Vec::new();
         }

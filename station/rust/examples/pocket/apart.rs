@@ -53,8 +53,7 @@ impl Front {
         let arrays = enabled_arrays(state, stages);
         let (bound, unit) = (state.buffers.array_buffer, state.arrays.client_active_texture);
         let mut made: HashMap<u32, Option<Vertex>> = HashMap::new();
-        let mut vertex =
-            |i| *made.entry(i).or_insert_with(|| self.vertex(mem, stages, &arrays, i));
+        let mut vertex = |i| *made.entry(i).or_insert_with(|| self.vertex(mem, stages, &arrays, i));
         let all = indices.iter().map(&mut vertex).collect();
         for (kind, array) in &arrays {
             self.set_pointer(*kind, array);

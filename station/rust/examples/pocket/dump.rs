@@ -89,8 +89,7 @@ fn settings(page: &mut impl Write, state: &State) -> Result<()> {
     let s = &state.settings;
     let flags = [s.depth_test, s.alpha_test, s.blend, s.cull, s.fog];
     writeln!(page, "flags {}", flags.map(|on| (on as u32).to_string()).join(" "))?;
-    let codes =
-        [s.depth_func, s.alpha_func, s.src, s.dst, s.cull_mode, s.front_face, s.fog_mode];
+    let codes = [s.depth_func, s.alpha_func, s.src, s.dst, s.cull_mode, s.front_face, s.fog_mode];
     writeln!(page, "codes {}", codes.map(|code| code.to_string()).join(" "))?;
     write!(page, "floats ")?;
     trace::floats(page, &[s.reference, s.density, s.start, s.end, s.near, s.far])?;

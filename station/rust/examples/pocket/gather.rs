@@ -27,7 +27,10 @@ enum All<'a> {
 impl<'a> Indices<'a> {
     pub fn list(list: &'a [u32]) -> Self {
         let bounds = list.iter().min().zip(list.iter().max());
-        Indices { all: All::List(list), bounds: bounds.map(|(&least, &greatest)| (least, greatest)) }
+        Indices {
+            all: All::List(list),
+            bounds: bounds.map(|(&least, &greatest)| (least, greatest)),
+        }
     }
 
     /// From `first` up to `end`, which is left out.
