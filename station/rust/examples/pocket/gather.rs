@@ -7,8 +7,8 @@ use std::ops::Range;
 
 /// Where the addresses end.
 const END: u64 = 1 << 32;
-/// The longest area that is made. Only those of its pages cost memory that were written.
-const LONGEST: u64 = 1 << 30;
+/// The area begins and ends at multiples of this.
+const GRAIN: u64 = 1 << 24;
 /// Elements are read by one read where it has at most so many times their bytes, and some more.
 const SPARSE: u64 = 8;
 const SOME_MORE: u64 = 4096;
@@ -87,22 +87,22 @@ pub fn element(array: &ArrayPointer, index: u32) -> Option<(u32, u32)> {
 pub enum Gathered<'a> {
     View(Guest<'a>),
     /// No view tells what can be read from what cannot: something unreadable lies in between, or
-    /// the arrays lie too far apart.
+    /// there is no room for all that lies between the arrays.
     Apart,
 }
 
-/// Buffers that are used again at each draw.
+/// What was read for a draw; kept, as the next draw reads much the same.
 pub struct Gather {
     /// What was read last.
     bytes: Vec<u8>,
-    /// Holds what was read at the distance of the addresses.
+    /// Copies of guest memory, each byte at the distance of its address from `start`. Only the
+    /// pages that were written cost memory.
     area: Vec<u8>,
+    start: u64,
 }
 
-/// What was found so far.
+/// What one draw can read.
 struct Found {
-    /// The address of the area's first byte.
-    low: u32,
     /// From the lowest to the highest address that was read.
     span: Option<Range<u64>>,
     /// Where elements could not be read.
@@ -125,7 +125,7 @@ impl Found {
 
 impl Gather {
     pub fn new() -> Self {
-        Gather { bytes: Vec::new(), area: Vec::new() }
+        Gather { bytes: Vec::new(), area: Vec::new(), start: 0 }
     }
 
     /// These bytes, if they can be read.
@@ -146,39 +146,55 @@ impl Gather {
         arrays: &[(Kind, ArrayPointer)],
         indices: &Indices,
     ) -> Gathered<'_> {
-        let Some(bounds) = indices.bounds.filter(|_| !arrays.is_empty()) else {
+        let Some(reach) = indices.bounds.and_then(|bounds| reach(arrays, bounds)) else {
             return Gathered::View(Guest::none());
         };
-        let reach = reach(arrays, bounds);
         let used: u64 = arrays.iter().map(|(_, array)| used(array, indices)).sum();
         if self.read_dense(mem, reach.clone(), used) {
             let bytes = &self.bytes[..(reach.end - reach.start) as usize];
             return Gathered::View(Guest { base: reach.start as u32, bytes });
         }
-        if reach.end - reach.start > LONGEST {
+        if !self.cover(reach.start..reach.end.min(END)) {
             return Gathered::Apart;
         }
-        let length = (reach.end - reach.start) as usize;
-        if self.area.len() < length {
-            self.area = vec![0; length];
-        }
-        let mut found = Found { low: reach.start as u32, span: None, unreadable: Vec::new() };
+        let mut found = Found { span: None, unreadable: Vec::new() };
         for (kind, array) in arrays {
             let whole = self.read_array(mem, array, indices, *kind == Kind::Vertex, &mut found);
             if !whole && *kind == Kind::Vertex {
                 return Gathered::View(Guest::none());
             }
         }
-        self.lend(&found)
-    }
-
-    fn lend(&self, found: &Found) -> Gathered<'_> {
         let Some(view) = found.view() else {
             return Gathered::Apart;
         };
-        let place = |address: u64| address.saturating_sub(found.low as u64) as usize;
-        let bytes = &self.area[place(view.start)..place(view.end)];
+        let bytes = &self.area[self.places(&view)];
         Gathered::View(Guest { base: view.start as u32, bytes })
+    }
+
+    /// Where these addresses lie in the area.
+    fn places(&self, part: &Range<u64>) -> Range<usize> {
+        let place = |address: u64| address.saturating_sub(self.start) as usize;
+        place(part.start)..place(part.end)
+    }
+
+    /// Makes the area reach over these addresses too. False if there is no room.
+    fn cover(&mut self, part: Range<u64>) -> bool {
+        let end = self.start + self.area.len() as u64;
+        if self.start <= part.start && part.end <= end {
+            return true;
+        }
+        let (from, to) = match self.area.is_empty() {
+            true => (part.start, part.end),
+            false => (part.start.min(self.start), part.end.max(end)),
+        };
+        let (from, to) = (from / GRAIN * GRAIN, to.next_multiple_of(GRAIN));
+        let length = (to - from) as usize;
+        let fits = has_room(length);
+        if fits {
+            // No page of zeros is written yet.
+            (self.area, self.start) = (vec![0; length], from);
+        }
+        fits
     }
 
     /// One read, where little in it is not asked for.
@@ -236,10 +252,10 @@ impl Gather {
 
     /// Copies what was read last to its place.
     fn put(&mut self, part: Range<u64>, found: &mut Found) {
-        let len = (part.end - part.start) as usize;
-        let at = (part.start - found.low as u64) as usize;
         if part.end <= END {
-            self.area[at..at + len].copy_from_slice(&self.bytes[..len]);
+            let places = self.places(&part);
+            let len = places.len();
+            self.area[places].copy_from_slice(&self.bytes[..len]);
         }
         found.add(part);
     }
@@ -257,8 +273,8 @@ fn used(array: &ArrayPointer, indices: &Indices) -> u64 {
     element(array, 0).map_or(0, |(_, len)| (len as u64).saturating_mul(indices.count() as u64))
 }
 
-/// From the lowest to the highest address that the draw can ask for.
-fn reach(arrays: &[(Kind, ArrayPointer)], bounds: (u32, u32)) -> Range<u64> {
+/// From the lowest to the highest address that the draw can ask for, if there is one.
+fn reach(arrays: &[(Kind, ArrayPointer)], bounds: (u32, u32)) -> Option<Range<u64>> {
     let mut all: Option<Range<u64>> = None;
     for (_, array) in arrays {
         let Some((first, _)) = element(array, bounds.0) else {
@@ -268,5 +284,13 @@ fn reach(arrays: &[(Kind, ArrayPointer)], bounds: (u32, u32)) -> Range<u64> {
         let all = all.get_or_insert(first as u64..end);
         *all = all.start.min(first as u64)..all.end.max(end);
     }
-    all.unwrap_or(0..0)
+    all
+}
+
+/// Does the system give so much memory? The compiler must not take the answer for granted.
+fn has_room(length: usize) -> bool {
+    let mut room = Vec::<u8>::new();
+    let fits = room.try_reserve_exact(length).is_ok();
+    std::hint::black_box(&room);
+    fits
 }
