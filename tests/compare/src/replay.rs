@@ -268,6 +268,16 @@ fn show(trial: &Trial, batch: &Batch, place: usize, hangs: bool) {
     suspect.show(&label, &lists.collect::<Vec<_>>(), &[]);
 }
 
+/// How many lists differ if they run as one trace, and the first of them.
+pub fn parted(trial: &Trial, items: Vec<Item>) -> (usize, Option<(String, Difference)>) {
+    let batch = Batch::new(items, &trial.judges);
+    let replay = Replay::start(&trial.program, batch.bytes.clone());
+    let found = batch.differences(&replay.finish(LIMIT, false));
+    let count = found.len();
+    let first = found.into_iter().next();
+    (count, first.map(|(place, d)| (batch.items[place].label.clone(), d)))
+}
+
 /// Every list through the program; `all` is how many there are.
 pub fn compare(trial: &Trial, items: impl Iterator<Item = Item> + Send, all: u64) -> bool {
     let mut counts = Counts::new();

@@ -55,9 +55,9 @@ fn items(seed: u64, count: u64) -> impl Iterator<Item = Item> {
     })
 }
 
-/// The lists through a program of PocketHLE's calls. With holes in the guest memory it is given them as
-/// its last arguments, and the oracle alone judges: the model knows memory in one piece.
-pub fn compare(seed: u64, count: u64, program: &[&str], holes: Option<Holes>) -> bool {
+/// With holes in the guest memory the program is given them as its last arguments, and the oracle
+/// alone judges: the model knows memory in one piece.
+fn trial(program: &[&str], holes: Option<Holes>) -> Trial {
     let mut program: Vec<String> = program.iter().map(|word| word.to_string()).collect();
     let oracle: Judge = ("oracle", Box::new(move |bytes| oracle::answers_with(bytes, holes)));
     let mut judges = vec![oracle];
@@ -67,6 +67,23 @@ pub fn compare(seed: u64, count: u64, program: &[&str], holes: Option<Holes>) ->
         }
         None => judges.push(("model", Box::new(|bytes| model::answers(bytes, None)))),
     }
-    let trial = Trial { program, judges, fits };
+    Trial { program, judges, fits }
+}
+
+/// The lists through a program of PocketHLE's calls.
+pub fn compare(seed: u64, count: u64, program: &[&str], holes: Option<Holes>) -> bool {
+    let trial = trial(program, holes);
     replay::compare(&trial, items(seed, count), sweep::lists().len() as u64 + count)
+}
+
+/// Does a program with a planted fault show it on these lists?
+pub fn shows(seed: u64, count: u64, program: &[&str], holes: Option<Holes>) -> bool {
+    let lists = items(seed, count).skip(sweep::lists().len()).collect();
+    let (parted, first) = replay::parted(&trial(program, holes), lists);
+    println!("{parted} of {count} lists differ");
+    if let Some((label, d)) = &first {
+        let cut = |line: &str| line.chars().take(100).collect::<String>();
+        println!("  {label}: oracle '{}', program '{}'", cut(&d.left), cut(&d.right));
+    }
+    first.is_some()
 }

@@ -24,7 +24,13 @@ pub struct Memory {
 }
 
 impl Memory {
-    fn set(&mut self, r: &Record) {
+    /// No bytes yet.
+    pub fn new(way: Way) -> Self {
+        Memory { base: 0, bytes: Vec::new(), way }
+    }
+
+    /// Takes the view that a record says.
+    pub fn set(&mut self, r: &Record) {
         self.base = r.words[0];
         match r.code {
             code::GUEST => self.bytes = r.bytes(1),
@@ -69,7 +75,7 @@ pub struct Player {
 
 impl Player {
     pub fn new(way: Way) -> Self {
-        Player { context: Context::new(), memory: Memory { base: 0, bytes: Vec::new(), way } }
+        Player { context: Context::new(), memory: Memory::new(way) }
     }
 
     /// Does what a record says that is no draw; the value of the call, if it has one.
