@@ -12,7 +12,7 @@ const TEXELS: u32 = 8;
 
 /// PocketHLE's context with an empty frame and a texture for each unit, whose name is the unit's
 /// number plus 1.
-pub fn host() -> Context {
+pub fn fresh() -> Context {
     let mut context = Context::new(WIDTH, HEIGHT);
     context.set_viewport(0, 0, WIDTH as i32, HEIGHT as i32);
     context.clear_color = CLEAR.map(|byte| byte as f32 / 255.0);

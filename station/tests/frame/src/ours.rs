@@ -1,6 +1,6 @@
 //! The frame that PocketHLE's rasteriser draws from the library's triangles and settings.
 
-use crate::host::host;
+use crate::host;
 use crate::player::{Player, Way};
 use crate::trace::{code, Record};
 use beonasul::state::{Settings, TextureUnit};
@@ -32,14 +32,14 @@ pub struct Frame {
 }
 
 pub fn frame(records: &[Record], way: Way, spoils: bool) -> Frame {
-    let (player, host) = (Player::new(way), host());
+    let (player, host) = (Player::new(way), host::fresh());
     let mut viewer = Viewer { player, host, triangles: 0, refused: 0, spoils };
     for r in records {
         match r.code {
             code::DRAW_LIST..=code::DRAW_GUEST => viewer.draw(r),
             code::FRESH => {
                 viewer.player.play(r);
-                viewer.host = host();
+                viewer.host = host::fresh();
             }
             _ => drop(viewer.player.play(r)),
         }

@@ -1,6 +1,6 @@
 //! The frame as the unchanged PocketHLE draws it.
 
-use crate::host::host;
+use crate::host;
 use crate::player::{Memory, Way};
 use crate::trace::{code, Record};
 use pocket::context::{Context, GuestMemory};
@@ -24,7 +24,7 @@ impl SetColor for Context {
 }
 
 pub fn frame(records: &[Record], way: Way) -> RenderTarget {
-    let (mut context, mut memory) = (host(), Memory::new(way));
+    let (mut context, mut memory) = (host::fresh(), Memory::new(way));
     for r in records {
         play(&mut context, &mut memory, r);
     }
@@ -35,7 +35,7 @@ fn play(context: &mut Context, memory: &mut Memory, r: &Record) {
     let w = &r.words;
     match r.code {
         code::META => {}
-        code::FRESH => *context = host(),
+        code::FRESH => *context = host::fresh(),
         code::GUEST | code::GUEST_FILL | code::GUEST_BASE => memory.set(r),
         code::GEN => drop(context.gen_buffers(w[0] as usize)),
         code::TAKE_ERROR => drop(context.take_error()),
