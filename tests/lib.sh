@@ -1,5 +1,5 @@
-# Sourced by ./run, ./compare, ./test, bench/run and the scripts beside it: the replay program and what it is built from, PocketHLE's sources,
-# and how long work is waited for.
+# Sourced by ./run, ./compare, ./test, ./install, bench/run, station/test and the scripts beside it: the replay program, the library and what they
+# are built from, PocketHLE's sources, and how long work is waited for.
 root=$(cd "$(dirname "${BASH_SOURCE[0]}")/.." && pwd)
 
 say_version() { printf 'Beonasul %s, traces of version 1\n' "$(cat "$root/VERSION")"; }
@@ -69,40 +69,55 @@ tell_reading() {
     done
 }
 
-# ---- the replay program
+# ---- the replay program and the library
 
-# Sets `replay` to the path of the replay program. REPLAY names another program to run in its place. A program that is there and not older than
-# its sources is run as it is: nothing is locked, written or asked of the kit. Otherwise `rt check` proves the crate and what it builds on, and
-# links target/bin/replay.
+# Sets `replay` to the path of the replay program. REPLAY names another program to run in its place. Where ./install has put these scripts there
+# are no sources, and the program lies in the folder bin.
 find_replay() {
-    local lacks=
     if [ -n "${REPLAY:-}" ]; then
         [ -x "$REPLAY" ] || { printf 'REPLAY=%s cannot be run\n' "$REPLAY" >&2; return 1; }
         replay=$(realpath "$REPLAY")
         printf '%s stands in for the replay program\n' "$REPLAY" >&2
-        return
+    elif [ -d "$root/crates" ]; then
+        replay=$root/target/bin/replay
+        find_built "$replay" "the replay program" check replay
+    else
+        replay=$root/../../bin/replay
+        [ -x "$replay" ] || { printf 'there is no program %s\n' "$replay" >&2; return 1; }
     fi
-    replay=$root/target/bin/replay
-    [ ! -x "$replay" ] || [ -n "$(find "$root/crates" "$root/crates.txt" -newer "$replay" -print -quit 2>&1)" ] || return 0
+}
+
+# Sets `library` to the path of the static library that C and Rust link. BEONASUL_LIB names another folder that has one.
+find_library() {
+    library=${BEONASUL_LIB:-$root/target/staticlib}/libstation.a
+    if [ -z "${BEONASUL_LIB:-}" ]; then
+        find_built "$library" "the static library" staticlib station
+    elif [ ! -f "$library" ]; then
+        printf 'BEONASUL_LIB: there is no %s\n' "$library" >&2
+        return 1
+    fi
+}
+
+# find_built FILE WHAT COMMAND NAME: a file that is there and not older than its sources is taken as it is: nothing is locked, written or asked
+# of the kit. Otherwise `rt COMMAND NAME` proves the crate and what it builds on, and links the file.
+find_built() {
+    local lacks=
+    [ ! -e "$1" ] || [ -n "$(find "$root/crates" "$root/crates.txt" -newer "$1" -print -quit 2>&1)" ] || return 0
     if ! command -v rt >/dev/null; then
         lacks="the Rattle kit's command rt is not on the path (README.md, What you need)"
     elif ! { mkdir -p "$root/target" && : >>"$root/target/prove.lock"; } 2>/dev/null; then
         lacks="$root cannot be written"
     fi
     if [ -z "$lacks" ]; then
-        build_replay
-    elif [ -x "$replay" ]; then
-        printf 'The sources are newer than the replay program. It is run as it is: %s\n' "$lacks" >&2
+        # The kit's stamps say what is proved, not whether the file still lies there.
+        [ -e "$1" ] || rm -f "$root/target/stamp/$4"
+        prove "$3" "$4" && [ -e "$1" ]
+    elif [ -e "$1" ]; then
+        printf 'The sources are newer than %s. It is used as it is: %s\n' "$2" "$lacks" >&2
     else
-        printf 'the replay program is not built yet, and it cannot be built here: %s\n' "$lacks" >&2
+        printf '%s is not built yet, and it cannot be built here: %s\n' "$2" "$lacks" >&2
         return 1
     fi
-}
-
-build_replay() {
-    # The kit's stamps say what is proved, not whether the program still lies there.
-    [ -x "$replay" ] || rm -f "$root/target/stamp/replay"
-    prove check replay && [ -x "$replay" ]
 }
 
 # prove COMMAND NAME: `rt COMMAND NAME`, which proves a crate and what it builds on. Says a line for each crate that is proved now, and a line at

@@ -5,7 +5,7 @@
 //! A trace has more than the calls of a context: stacks lent from outside and state printed are
 //! left out, with their answers; it stops at an unsound context and at a store of another length.
 
-mod trace;
+pub mod trace;
 
 use beonasul::{Context, Error, Guest, Result, Store};
 use std::fs::{self, File};
@@ -15,11 +15,12 @@ use trace::{code, Record};
 type Outcome<T = ()> = std::result::Result<T, Box<dyn std::error::Error>>;
 
 /// What a trace's calls work on.
-struct Viewer {
-    context: Context,
+#[derive(Default)]
+pub struct Viewer {
+    pub context: Context,
     store: Store,
-    base: u32,
-    guest: Vec<u8>,
+    pub base: u32,
+    pub guest: Vec<u8>,
     out: Vec<f32>,
 }
 
@@ -29,12 +30,7 @@ fn answer(result: Result<u32>) -> [u32; 2] {
 }
 
 impl Viewer {
-    fn new() -> Self {
-        let (context, store) = (Context::new(), Store::new());
-        Viewer { context, store, base: 0, guest: Vec::new(), out: Vec::new() }
-    }
-
-    fn play(&mut self, r: &Record, page: &mut impl Write) -> Outcome {
+    pub fn play(&mut self, r: &Record, page: &mut impl Write) -> Outcome {
         match r.code {
             code::FRESH => {
                 self.context.reset();
@@ -61,7 +57,7 @@ impl Viewer {
         Ok(())
     }
 
-    fn set_guest(&mut self, r: &Record) {
+    pub fn set_guest(&mut self, r: &Record) {
         self.base = r.words[0];
         match r.code {
             code::GUEST => self.guest = r.bytes(1),
@@ -91,7 +87,7 @@ impl Viewer {
             code::POP => context.pop_matrix(),
             code::TRANSLATE => context.translate(r.float(0), r.float(1), r.float(2)),
             code::SCALE => context.scale(r.float(0), r.float(1), r.float(2)),
-            code::ROTATE => context.rotate(r.float(5), r.float(6), r.float(7), r.float(8)),
+            code::ROTATE => context.rotate_by(r.float(0), r.float(1), r.floats(2)),
             code::ROTATE_ZERO => context.rotate(r.float(0), r.float(1), r.float(2), r.float(3)),
             code => {
                 let [left, right, bottom, top, near, far] = r.floats(0);
@@ -170,7 +166,7 @@ fn main() -> Outcome {
     let mut arguments = std::env::args_os().skip(1);
     let trace = arguments.next().ok_or("usage: deck TRACE [RECORDING]")?;
     let records = trace::read(&fs::read(trace)?).ok_or("the trace is damaged")?;
-    let mut viewer = Viewer::new();
+    let mut viewer = Viewer::default();
     if let Some(recording) = arguments.next() {
         viewer.context.record(BufWriter::new(File::create(recording)?))?;
     }

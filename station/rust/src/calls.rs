@@ -206,6 +206,15 @@ pub(crate) enum Indices<'a> {
 }
 
 impl Indices<'_> {
+    /// The code of their draw's record.
+    fn code(&self) -> u32 {
+        match self {
+            Indices::Lent(_) => code::DRAW_ELEMENTS,
+            Indices::Range { .. } => code::DRAW_ARRAYS,
+            Indices::Stored { .. } => code::DRAW_ELEMENTS_FROM_GUEST,
+        }
+    }
+
     /// How many there are, if they can be read.
     pub fn count(&self) -> usize {
         match *self {
@@ -216,21 +225,21 @@ impl Indices<'_> {
     }
 }
 
+impl Argument for Indices<'_> {
+    fn put(&self, words: &mut Vec<u32>) {
+        match *self {
+            Indices::Lent(list) => words.extend_from_slice(list),
+            Indices::Range { first, count } => words.extend([first, count]),
+            Indices::Stored { count, ty, pointer } => words.extend([count, ty, pointer]),
+        }
+    }
+}
+
 /// Appends a draw. It may use all of the output that is lent.
 pub(crate) fn append_draw(words: &mut Vec<u32>, drawn: Drawn, indices: Indices) {
     let Drawn { mode, stages, base, guest } = drawn;
-    let mut draw = |code, rest: &[&dyn Argument]| {
-        let first: [&dyn Argument; 6] =
-            [&mode, &stages, &usize::MAX, &base, &guest.place, &guest.len];
-        append(words, code, &[&first[..], rest].concat());
-    };
-    match indices {
-        Indices::Lent(list) => draw(code::DRAW_ELEMENTS, &[&list]),
-        Indices::Range { first, count } => draw(code::DRAW_ARRAYS, &[&first, &count]),
-        Indices::Stored { count, ty, pointer } => {
-            draw(code::DRAW_ELEMENTS_FROM_GUEST, &[&count, &ty, &pointer])
-        }
-    }
+    let (room, Part { place, len }) = (usize::MAX, guest);
+    append(words, indices.code(), &[&mode, &stages, &room, &base, &place, &len, &indices]);
 }
 
 /// A rotation by an angle in degrees, as the host works it out.

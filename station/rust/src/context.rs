@@ -235,7 +235,8 @@ impl Context {
 
     /// Makes the calls of a list, one after the other. Each draw writes its triangles from the
     /// start of `out`, 51 f32 each, so a list has one draw, at its end, where those of each are
-    /// wanted.
+    /// wanted. A refused call does not end the list. While the context records, the calls are made
+    /// one by one.
     pub fn run(&mut self, store: &mut Store, list: &List, out: &mut [f32]) -> Reply {
         self.caller.run(list, store, out)
     }

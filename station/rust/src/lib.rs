@@ -61,3 +61,8 @@ const _: () = {
     is_send::<List>();
     is_send::<RecordError>();
 };
+
+/// The README's program is run as an example, too.
+#[cfg(doctest)]
+#[doc = include_str!("../README.md")]
+struct Readme;

@@ -68,6 +68,10 @@ impl Context {
     /// The context must be fresh. A call that a trace cannot hold, or a writer that fails, stops
     /// the recorder and not the call: [`record_error`](Context::record_error) then says why. Each
     /// record is written by itself, so a file should come in a [`BufWriter`](std::io::BufWriter).
+    ///
+    /// A trace has angle and axis of each rotation, for programs that work it out by themselves.
+    /// Those of [`rotate_by`](Context::rotate_by) are made from cosine and sine, and such a
+    /// program may come to other bits; `replay` does not.
     pub fn record(&mut self, writer: impl Write + Send + 'static) -> Outcome {
         if self.caller.recorder.is_some() {
             return Err(RecordError::Recording);

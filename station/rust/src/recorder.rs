@@ -1,6 +1,6 @@
 //! The recorder, which turns the records of calls into those of a trace (docs/TRACE.md).
 
-use crate::calls::{code, Indices};
+use crate::calls::{code, is_draw, Indices};
 use crate::record::{Outcome, RecordError};
 use crate::state::State;
 use std::io::Write;
@@ -138,9 +138,7 @@ impl Recorder {
                 let len = self.within(bytes.len(), UPLOAD, "bytes for a buffer")?;
                 self.put(code, &[&[w[0], w[1], len]], bytes)
             }
-            (code::DRAW_ELEMENTS | code::DRAW_ARRAYS | code::DRAW_ELEMENTS_FROM_GUEST, _) => {
-                self.write_draw(state, made)
-            }
+            _ if is_draw(code) => self.write_draw(state, made),
             _ => self.put(code, &[w], &[]),
         }
     }
