@@ -3,7 +3,7 @@
 
 use crate::commands::{self, Item};
 use crate::generate::{Kind, List};
-use crate::model::{self, Model};
+use crate::model::Model;
 use crate::oracle::{self, from_host, zero_axis, Holes};
 use crate::replay::{self, Judge, Trial};
 use crate::sweep;
@@ -55,19 +55,15 @@ fn items(seed: u64, count: u64) -> impl Iterator<Item = Item> {
     })
 }
 
-/// With holes in the guest memory the program is given them as its last arguments, and the oracle
-/// alone judges: the model knows memory in one piece.
+/// The oracle alone judges: it can follow these lists to their ends. Where the guest memory has holes,
+/// the program's last arguments say which.
 fn trial(program: &[&str], holes: Option<Holes>) -> Trial {
     let mut program: Vec<String> = program.iter().map(|word| word.to_string()).collect();
-    let oracle: Judge = ("oracle", Box::new(move |bytes| oracle::answers_with(bytes, holes)));
-    let mut judges = vec![oracle];
-    match holes {
-        Some(Holes { period, length }) => {
-            program.extend(["holes".into(), period.to_string(), length.to_string()]);
-        }
-        None => judges.push(("model", Box::new(|bytes| model::answers(bytes, None)))),
+    if let Some(Holes { period, length }) = holes {
+        program.extend(["holes".into(), period.to_string(), length.to_string()]);
     }
-    Trial { program, judges, fits }
+    let oracle: Judge = ("oracle", Box::new(move |bytes| oracle::answers_with(bytes, holes)));
+    Trial { program, judges: vec![oracle], fits }
 }
 
 /// The lists through a program of PocketHLE's calls.

@@ -134,6 +134,12 @@ impl Context {
         Context { front, gather: Gather::new(), stages: 0 }
     }
 
+    /// Makes it fresh again; the memory that its draws have used is kept for the next ones.
+    pub fn reset(&mut self) {
+        self.front.context.reset();
+        (self.front.number, self.stages) = (0, 0);
+    }
+
     /// What the last call answered: 0 for done, else the number of 01 that says why not.
     pub fn number(&self) -> u32 {
         self.front.number

@@ -83,7 +83,7 @@ impl Player {
         let (context, w) = (&mut self.context, &r.words);
         match r.code {
             code::META => {}
-            code::FRESH => *context = Context::new(),
+            code::FRESH => context.reset(),
             code::GUEST | code::GUEST_FILL | code::GUEST_BASE => self.memory.set(r),
             code::GEN => {
                 return Some(context.gen_buffers(w[0] as usize).first().copied().unwrap_or(0));
