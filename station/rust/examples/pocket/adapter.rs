@@ -63,7 +63,15 @@ struct Front {
 enum Source<'a> {
     List(&'a [u32]),
     Range { first: u32, count: u32 },
-    Stored { count: u32, ty: u32, pointer: u32 },
+    Stored(Stored),
+}
+
+/// Indices in the element buffer or in guest memory.
+#[derive(Clone, Copy)]
+struct Stored {
+    count: u32,
+    ty: u32,
+    pointer: u32,
 }
 
 /// Which array of a context.
@@ -191,12 +199,7 @@ impl Context {
         count: u32,
         mut triangle: impl FnMut(&Triangle),
     ) {
-        let source = Source::Range { first, count };
-        if let Some(view) = mem.view() {
-            return self.front.draw(view, mode, self.stages, source, &mut triangle);
-        }
-        let indices = Indices::range(first, first.saturating_add(count));
-        self.draw(mem, mode, source, &indices, &mut triangle);
+        self.draw(mem, mode, Source::Range { first, count }, &mut triangle);
     }
 
     pub fn draw_elements(
@@ -206,11 +209,7 @@ impl Context {
         indices: &[u32],
         mut triangle: impl FnMut(&Triangle),
     ) {
-        let source = Source::List(indices);
-        if let Some(view) = mem.view() {
-            return self.front.draw(view, mode, self.stages, source, &mut triangle);
-        }
-        self.draw(mem, mode, source, &Indices::list(indices), &mut triangle);
+        self.draw(mem, mode, Source::List(indices), &mut triangle);
     }
 
     pub fn draw_elements_from_guest(
@@ -222,31 +221,46 @@ impl Context {
         pointer: u32,
         mut triangle: impl FnMut(&Triangle),
     ) {
-        let source = Source::Stored { count, ty, pointer };
+        self.draw(mem, mode, Source::Stored(Stored { count, ty, pointer }), &mut triangle);
+    }
+
+    fn draw(&mut self, mem: &mut dyn GuestMemory, mode: u32, source: Source, triangle: Sink) {
         if let Some(view) = mem.view() {
-            return self.front.draw(view, mode, self.stages, source, &mut triangle);
+            return self.front.draw(view, mode, self.stages, source, triangle);
         }
-        let list = match self.buffer(self.state().buffers.element_buffer) {
-            Some(buffer) => widened(buffer.get(pointer as usize..), count, ty),
-            None => {
-                let bytes = self.gather.read(mem, pointer, index_bytes(count, ty));
-                match widened(bytes, count, ty) {
-                    // PocketHLE goes on with a list too.
-                    Some(list) if count > 0 => {
-                        return self.draw_elements(mem, mode, &list, triangle);
-                    }
-                    list => {
-                        let guest = empty_view(pointer, list.is_some());
-                        return self.front.draw(guest, mode, self.stages, source, &mut triangle);
-                    }
-                }
+        match source {
+            Source::List(list) => {
+                self.draw_gathered(mem, mode, source, &Indices::list(list), triangle)
             }
-        };
-        self.draw(mem, mode, source, &Indices::list(&list.unwrap_or_default()), &mut triangle);
+            Source::Range { first, count } => {
+                let indices = Indices::range(first, first.saturating_add(count));
+                self.draw_gathered(mem, mode, source, &indices, triangle)
+            }
+            Source::Stored(at) => self.draw_stored(mem, mode, at, triangle),
+        }
+    }
+
+    /// A draw with indices from the element buffer, or else from memory that has no view.
+    fn draw_stored(&mut self, mem: &mut dyn GuestMemory, mode: u32, at: Stored, triangle: Sink) {
+        let source = Source::Stored(at);
+        if let Some(buffer) = self.buffer(self.state().buffers.element_buffer) {
+            let list = at.widened(buffer.get(at.pointer as usize..)).unwrap_or_default();
+            return self.draw_gathered(mem, mode, source, &Indices::list(&list), triangle);
+        }
+        match at.widened(self.gather.read(mem, at.pointer, at.len())) {
+            // PocketHLE goes on with a list too.
+            Some(list) if at.count > 0 => {
+                self.draw_gathered(mem, mode, Source::List(&list), &Indices::list(&list), triangle)
+            }
+            list => {
+                let guest = empty_view(at.pointer, list.is_some());
+                self.front.draw(guest, mode, self.stages, source, triangle)
+            }
+        }
     }
 
     /// A draw on memory that has no view: what it can read is gathered first.
-    fn draw(
+    fn draw_gathered(
         &mut self,
         mem: &mut dyn GuestMemory,
         mode: u32,
@@ -256,13 +270,10 @@ impl Context {
     ) {
         let stages = self.stages;
         let arrays = self.arrays_read(indices);
-        let guest = match self.gather.view(mem, &arrays, indices) {
-            Gathered::View(guest) => guest,
-            Gathered::Apart => {
-                return self.front.draw_apart(mem, mode, stages, source, indices, triangle);
-            }
-        };
-        self.front.draw(guest, mode, stages, source, triangle);
+        match self.gather.view(mem, &arrays, indices) {
+            Gathered::View(guest) => self.front.draw(guest, mode, stages, source, triangle),
+            Gathered::Apart => self.front.draw_apart(mem, mode, stages, source, indices, triangle),
+        }
     }
 
     /// The arrays that the draw reads from guest memory; none where it is refused anyhow.
@@ -306,7 +317,7 @@ impl Front {
             Source::Range { first, count } => {
                 context.draw_arrays(store, guest, mode, stages, first, count)
             }
-            Source::Stored { count, ty, pointer } => {
+            Source::Stored(Stored { count, ty, pointer }) => {
                 context.draw_elements_from_guest(store, guest, mode, stages, count, ty, pointer)
             }
         };
@@ -328,22 +339,27 @@ fn enabled_arrays(state: &State, stages: u32) -> Vec<(Kind, ArrayPointer)> {
     read
 }
 
-/// How many bytes so many indices have; none if there is no index of the type.
-fn index_bytes(count: u32, ty: u32) -> Option<usize> {
-    match ty {
-        UNSIGNED_BYTE => Some(count as usize),
-        UNSIGNED_SHORT => Some(2 * count as usize),
-        _ => None,
+impl Stored {
+    /// How many bytes they have; none if there is no index of the type.
+    fn len(&self) -> Option<usize> {
+        match self.ty {
+            UNSIGNED_BYTE => Some(self.count as usize),
+            UNSIGNED_SHORT => Some(2 * self.count as usize),
+            _ => None,
+        }
     }
-}
 
-/// The first `count` indices of the type in these bytes, if they hold so many.
-fn widened(bytes: Option<&[u8]>, count: u32, ty: u32) -> Option<Vec<u32>> {
-    let bytes = bytes?.get(..index_bytes(count, ty)?)?;
-    Some(match ty {
-        UNSIGNED_BYTE => bytes.iter().map(|&byte| byte as u32).collect(),
-        _ => bytes.chunks_exact(2).map(|two| u16::from_le_bytes([two[0], two[1]]) as u32).collect(),
-    })
+    /// The indices in these bytes, if there are so many.
+    fn widened(&self, bytes: Option<&[u8]>) -> Option<Vec<u32>> {
+        let bytes = bytes?.get(..self.len()?)?;
+        Some(match self.ty {
+            UNSIGNED_BYTE => bytes.iter().map(|&byte| byte as u32).collect(),
+            _ => bytes
+                .chunks_exact(2)
+                .map(|two| u16::from_le_bytes([two[0], two[1]]).into())
+                .collect(),
+        })
+    }
 }
 
 /// A view without bytes, in which no bytes can be read at the address, or in which even that fails.
