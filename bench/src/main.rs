@@ -1,8 +1,15 @@
 //! Times the library beside PocketHLE's Rust: the same calls, in one process, turn about, the best of many rounds.
 
+// Without the station's crate (bench/turns) some of what is timed through it is not used.
+#![cfg_attr(not(feature = "station"), allow(dead_code, unused_mut))]
+
 mod call;
+#[cfg(feature = "station")]
+mod frames;
 mod mix;
 mod ours;
+#[cfg(feature = "station")]
+mod station;
 mod theirs;
 
 use call::{Call, Work, ARRAY, ELEMENTS, FLOAT};
@@ -42,10 +49,12 @@ fn main() {
     if words.iter().any(|w| w == "--own") {
         return own(&Plan { rounds: 5, slice: Duration::from_millis(4), ..plan });
     }
-    let below = draws(&plan);
+    let mut below = draws(&plan);
     floors(&plan);
     states(&plan);
     other_states(&plan);
+    #[cfg(feature = "station")]
+    below.extend(station::tables(&plan));
     if !smoke {
         tell(&below);
     }
@@ -80,8 +89,15 @@ fn own(plan: &Plan) {
     }
 }
 
-/// One side alone, for a profiler: the draws of 100 triangles and the state calls.
+/// One side alone, for a profiler: the draws of 100 triangles, the state calls and the frames; of the station the frames alone.
 fn profile(plan: &Plan, side: &str, times: u32) {
+    #[cfg(feature = "station")]
+    if side != "ours" {
+        frames::profile(plan, side, times);
+    }
+    if side == "station" {
+        return;
+    }
     let draws = chosen(plan).into_iter().map(|mix| (mix.name.clone(), mix.work(mix.sizes[0])));
     let calls = state_calls().into_iter().filter(|(name, _)| plan.is_chosen(name));
     for (name, work) in
@@ -188,10 +204,15 @@ fn compare(work: &Work) {
         } else {
             ours.run(2);
         }
-        for (i, (a, b)) in words.iter().zip(&ours.out).enumerate() {
-            let same = a.to_bits() == b.to_bits() || a.is_nan() && b.is_nan();
-            assert!(same, "word {i} of pass {pass}: {a} in the Rust, {b} here");
-        }
+        compare_words(&words, &ours.out);
+    }
+}
+
+fn compare_words(theirs: &[f32], ours: &[f32]) {
+    assert_eq!(theirs.len(), ours.len(), "another number of triangles than in the Rust");
+    for (i, (a, b)) in theirs.iter().zip(ours).enumerate() {
+        let same = a.to_bits() == b.to_bits() || a.is_nan() && b.is_nan();
+        assert!(same, "word {i}: {a} in the Rust, {b} here");
     }
 }
 
@@ -233,7 +254,7 @@ fn floors(plan: &Plan) {
         });
         println!("- copying the output of {size} triangles: {:.2} ns a triangle", ns / size as f64);
     }
-    let mut copies = Copies::new();
+    let mut copies = Copies::new(CONTEXT);
     println!(
         "- copying a context of {CONTEXT} bytes in and out: {:.0} ns\n",
         best(plan, |n| copies.run(n))
@@ -247,8 +268,8 @@ struct Copies {
 }
 
 impl Copies {
-    fn new() -> Self {
-        Copies { from: vec![1; CONTEXT], to: vec![0; CONTEXT] }
+    fn new(bytes: usize) -> Self {
+        Copies { from: vec![1; bytes], to: vec![0; bytes] }
     }
 
     fn run(&mut self, times: u32) {
@@ -290,7 +311,7 @@ fn stored_work(again: Vec<Call>) -> Work {
 fn states(plan: &Plan) {
     println!("## State calls, ns a call\n");
     println!("| call | Rust | ours | copies of a context in and out |\n|---|---|---|---|");
-    let mut copies = Copies::new();
+    let mut copies = Copies::new(CONTEXT);
     let times = count(plan, |n| copies.run(n));
     for (name, call) in state_calls().into_iter().filter(|(name, _)| plan.is_chosen(name)) {
         let again = vec![call; LIST].concat();
@@ -303,34 +324,34 @@ fn states(plan: &Plan) {
     }
 }
 
-/// Every other state call, by its code and words (crates/list_records/specs/Encoding.antt).
+/// Every other state call.
 fn other_calls() -> Vec<(&'static str, Vec<Call>)> {
     let f = |numbers: &[f32]| numbers.iter().map(|x| x.to_bits()).collect::<Vec<u32>>();
-    let unit: Vec<u32> = (0..16).map(|i| f32::to_bits((i % 5 == 0) as u32 as f32)).collect();
+    let unit: [f32; 16] = std::array::from_fn(|i| (i % 5 == 0) as u32 as f32);
     let one = |code: u32, words: Vec<u32>| vec![Call::Coded(code, words)];
-    let made_and_deleted = [one(0x21, vec![ELEMENTS, 2]), one(0x22, vec![2])].concat();
+    let made_and_deleted = [vec![Call::Bind(ELEMENTS, 2)], one(0x22, vec![2])].concat();
     vec![
-        ("set_matrix_mode", one(0x10, vec![0x1700])),
-        ("set_matrix_mode, refused", one(0x10, vec![0])),
+        ("set_matrix_mode", vec![Call::Mode(0x1700)]),
+        ("set_matrix_mode, refused", vec![Call::Mode(0)]),
         ("load_identity", one(0x11, vec![])),
-        ("load_matrix", one(0x12, unit.clone())),
-        ("mult_matrix", one(0x13, unit)),
-        ("pop_matrix, refused", one(0x15, vec![])),
+        ("load_matrix", vec![Call::Load(unit)]),
+        ("mult_matrix", one(0x13, f(&unit))),
+        ("pop_matrix, refused", vec![Call::Pop]),
         ("scale", one(0x17, f(&[1.0, 1.0, 1.0]))),
-        ("rotate", one(0x18, f(&[1.0, 0.0, 1.0, 0.0, 0.0]))),
-        ("frustum", one(0x1a, f(&[-1.0, 1.0, -1.0, 1.0, 1.0, 3.0]))),
-        ("frustum, refused", one(0x1a, f(&[1.0, 1.0, -1.0, 1.0, 1.0, 3.0]))),
+        ("rotate", vec![Call::Rotate(0.0, [1.0, 0.0, 0.0])]),
+        ("frustum", vec![Call::Frustum([-1.0, 1.0, -1.0, 1.0, 1.0, 3.0])]),
+        ("frustum, refused", vec![Call::Frustum([1.0, 1.0, -1.0, 1.0, 1.0, 3.0])]),
         ("ortho", one(0x1b, f(&[-1.0, 1.0, -1.0, 1.0, -1.0, 1.0]))),
         ("ortho, refused", one(0x1b, f(&[1.0, 1.0, -1.0, 1.0, -1.0, 1.0]))),
         ("bind_buffer of a new name, delete_buffers", made_and_deleted),
         ("gen_buffers of no name", one(0x20, vec![0, 0])),
         ("gen_buffers, refused", one(0x20, vec![17, 0])),
-        ("buffer_sub_data of 4,096 bytes", one(0x24, vec![ARRAY, 0, 0, 0, 4096, 0])),
-        ("set_color_pointer", one(0x31, vec![4, 0x1401, 0, 4096])),
+        ("buffer_sub_data of 4,096 bytes", vec![Call::SubData(ARRAY, 0, vec![7; 4096])]),
+        ("set_color_pointer", vec![Call::ColorPointer(4, 0x1401, 0, 4096)]),
         ("set_normal_pointer", one(0x32, vec![FLOAT, 0, 4096])),
-        ("set_texcoord_pointer", one(0x33, vec![2, FLOAT, 0, 4096])),
-        ("set_client_state", one(0x34, vec![0x8074, 1])),
-        ("set_client_active_texture", one(0x35, vec![0x84c1])),
+        ("set_texcoord_pointer", vec![Call::TexcoordPointer(2, FLOAT, 0, 4096)]),
+        ("set_client_state", vec![Call::ClientState(0x8074, true)]),
+        ("set_client_active_texture", vec![Call::ClientUnit(0x84c1)]),
         ("set_multi_texcoord", one(0x37, vec![0x84c0, 0, 0])),
         ("set_active_texture", one(0x40, vec![0x84c1])),
         ("set_capability", one(0x41, vec![0x0b71, 1])),
@@ -350,7 +371,7 @@ fn other_calls() -> Vec<(&'static str, Vec<Call>)> {
 fn other_states(plan: &Plan) {
     println!("\n## The other state calls, ns a call, this library alone\n");
     println!("| call | ours | copies of a context in and out |\n|---|---|---|");
-    let mut copies = Copies::new();
+    let mut copies = Copies::new(CONTEXT);
     let times = count(plan, |n| copies.run(n));
     let mut most = 0.0f64;
     for (name, calls) in other_calls().into_iter().filter(|(name, _)| plan.is_chosen(name)) {

@@ -117,23 +117,7 @@ impl Mix {
         let parts = triangles / part;
         let mut numbers = Numbers(7);
         let mut maker = Maker { mix: self, first: matrices(), guest: vec![0; 16], name: 1 };
-        let list = self.indices(part);
-        let shorts: Vec<u8> = list.iter().flat_map(|i| (*i as u16).to_le_bytes()).collect();
-        let count = list.len() as u32;
-        let indices = match self.source {
-            Source::Lent => Indices::Lent(list),
-            Source::Range => Indices::Range(0, count),
-            Source::Shorts => {
-                let at = maker.guest(&shorts);
-                Indices::Stored(count, USHORT, at)
-            }
-            Source::Elements => {
-                maker.first.push(Call::Bind(ELEMENTS, 99));
-                maker.first.push(Call::Data(ELEMENTS, shorts));
-                Indices::Stored(count, USHORT, 0)
-            }
-        };
-        let draw = Draw { mode: self.mode, stages: (1 << self.stages) - 1, indices };
+        let draw = maker.draw(part);
         let mut again = Vec::new();
         for _ in 0..parts {
             let pointers = maker.arrays(&mut numbers, self.vertices(part));
@@ -146,6 +130,22 @@ impl Mix {
         }
         Work { first: maker.first, again, guest: maker.guest, triangles, last: part }
     }
+}
+
+/// A frame of many draws, the mixes by turns: each draw has arrays and a translation of its own.
+pub fn frame(mixes: &[Mix], draws: usize, triangles: usize) -> Work {
+    let mut numbers = Numbers(7);
+    let mut maker = Maker { mix: &mixes[0], first: Vec::new(), guest: vec![0; 16], name: 1 };
+    let mut again = matrices();
+    for i in 0..draws {
+        maker.mix = &mixes[i % mixes.len()];
+        again.extend([Call::Push, Call::Translate(i as f32 / draws as f32, 0.0, 0.0)]);
+        again.extend(maker.arrays(&mut numbers, maker.mix.vertices(triangles)));
+        again.push(Call::Draw(maker.draw(triangles)));
+        again.push(Call::Pop);
+    }
+    let Maker { first, guest, .. } = maker;
+    Work { first, again, guest, triangles: draws * triangles, last: triangles }
 }
 
 struct Maker<'a> {
@@ -161,6 +161,24 @@ impl Maker<'_> {
         let at = self.guest.len();
         self.guest.extend(bytes);
         BASE + at as u32
+    }
+
+    /// A draw, whose indices are where the mix has them.
+    fn draw(&mut self, triangles: usize) -> Draw {
+        let list = self.mix.indices(triangles);
+        let shorts: Vec<u8> = list.iter().flat_map(|i| (*i as u16).to_le_bytes()).collect();
+        let count = list.len() as u32;
+        let indices = match self.mix.source {
+            Source::Lent => Indices::Lent(list),
+            Source::Range => Indices::Range(0, count),
+            Source::Shorts => Indices::Stored(count, USHORT, self.guest(&shorts)),
+            Source::Elements => {
+                self.first.push(Call::Bind(ELEMENTS, 99));
+                self.first.push(Call::Data(ELEMENTS, shorts));
+                Indices::Stored(count, USHORT, 0)
+            }
+        };
+        Draw { mode: self.mix.mode, stages: (1 << self.mix.stages) - 1, indices }
     }
 
     /// Bytes for an array: in a buffer that is then bound, or in guest memory. Gives the pointer.
@@ -279,4 +297,9 @@ pub fn all() -> Vec<Mix> {
     add("f32, byte colours, 1 stage of fixed coordinates, six times", fixed);
     add("f32, f32 colours, 1 stage, six times", Mix { color: Some(FLOAT), ..mesh });
     mixes
+}
+
+/// The mix of that name.
+pub fn named(name: &str) -> Mix {
+    all().into_iter().find(|mix| mix.name == name).expect("there is such a mix")
 }

@@ -74,6 +74,13 @@ fn bits(f: &[f32]) -> Vec<u32> {
     f.iter().map(|x| x.to_bits()).collect()
 }
 
+/// Puts data to the bytes that are lent: where they begin, and how many there are.
+fn keep(data: &[u8], bytes: &mut Vec<u8>) -> [[u32; 2]; 2] {
+    let at = bytes.len();
+    bytes.extend(data);
+    [long(at), long(data.len())]
+}
+
 fn encode(calls: &[Call], guest: usize, room: usize, bytes: &mut Vec<u8>) -> Vec<u32> {
     let mut words = Vec::new();
     for call in calls {
@@ -91,14 +98,19 @@ fn record(call: &Call, guest: usize, room: usize, bytes: &mut Vec<u8>) -> (u32, 
         Call::Push => (0x14, vec![]),
         Call::Pop => (0x15, vec![]),
         Call::Translate(x, y, z) => (0x16, bits(&[*x, *y, *z])),
+        Call::Rotate(angle, axis) => {
+            let radians = angle.to_radians();
+            (0x18, bits(&[&[radians.cos(), radians.sin()], &axis[..]].concat()))
+        }
         Call::Frustum(f) => (0x1a, bits(f)),
         Call::Bind(target, name) => (0x21, vec![*target, *name]),
         Call::Data(target, data) => {
-            let at = bytes.len();
-            bytes.extend(data);
-            let n = long(data.len());
-            let place = long(at);
-            (0x23, vec![*target, n[0], n[1], 0, place[0], place[1], n[0], n[1]])
+            let [at, n] = keep(data, bytes);
+            (0x23, [&[*target], &n[..], &[0], &at, &n].concat())
+        }
+        Call::SubData(target, offset, data) => {
+            let [at, n] = keep(data, bytes);
+            (0x24, [&[*target, *offset], &at[..], &n].concat())
         }
         Call::VertexPointer(a, b, c, d) => (0x30, vec![*a, *b, *c, *d]),
         Call::ColorPointer(a, b, c, d) => (0x31, vec![*a, *b, *c, *d]),

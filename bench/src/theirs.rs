@@ -1,6 +1,6 @@
 //! PocketHLE's `Context`. A stage is a unit with a complete 1x1 texture, as in the differential runs.
 
-use crate::call::{Call, Draw, Indices, Work, BASE};
+use crate::call::{make_call, Call, Draw, Indices, Work, BASE};
 use pocket::context::{Context, GuestMemory};
 use pocket::raster;
 use pocket::texture::Texture;
@@ -31,22 +31,10 @@ pub struct Theirs {
 
 impl Theirs {
     pub fn new(work: &Work) -> Self {
-        let mut context = Context::new(1, 1);
-        let mut texture = Texture::default();
-        texture.define_level(0, 1, 1, vec![255; 4]);
-        context.textures.insert(TEXTURE, texture);
         let guest = Guest { bytes: work.guest.clone() };
-        let mut theirs = Theirs { context, guest, again: work.again.clone() };
+        let mut theirs = Theirs { context: fresh(), guest, again: work.again.clone() };
         for call in &work.first {
             make(&mut theirs.context, &mut theirs.guest, call);
-        }
-        for call in &work.again {
-            if let Call::Draw(draw) = call {
-                for (u, unit) in theirs.context.texture_units.iter_mut().enumerate() {
-                    unit.texture_enabled = draw.stages >> u & 1 == 1;
-                    unit.bound_texture = TEXTURE;
-                }
-            }
         }
         theirs
     }
@@ -58,6 +46,20 @@ impl Theirs {
                 make(&mut self.context, &mut self.guest, call);
             }
         }
+    }
+
+    /// Makes a call. Gives the words of a draw's triangles.
+    pub fn make(&mut self, call: &Call) -> Vec<f32> {
+        make(&mut self.context, &mut self.guest, call);
+        if matches!(call, Call::Draw(_)) {
+            return self.words();
+        }
+        Vec::new()
+    }
+
+    /// Takes a fresh context.
+    pub fn reset(&mut self) {
+        self.context = fresh();
     }
 
     /// The words of the last draw's triangles.
@@ -73,31 +75,41 @@ impl Theirs {
     }
 }
 
-fn make(c: &mut Context, guest: &mut Guest, call: &Call) {
-    match call {
-        Call::Mode(mode) => c.set_matrix_mode(*mode),
-        Call::Load(m) => c.load_matrix(*m),
-        Call::Push => c.push_matrix(),
-        Call::Pop => c.pop_matrix(),
-        Call::Translate(x, y, z) => c.translate(*x, *y, *z),
-        Call::Frustum([l, r, b, t, n, f]) => c.frustum(*l, *r, *b, *t, *n, *f),
-        Call::Bind(target, name) => c.bind_buffer(*target, *name),
-        Call::Data(target, data) => c.buffer_data(*target, data.len(), Some(data), 0),
-        Call::VertexPointer(size, ty, stride, at) => c.set_vertex_pointer(*size, *ty, *stride, *at),
-        Call::ColorPointer(size, ty, stride, at) => c.set_color_pointer(*size, *ty, *stride, *at),
-        Call::TexcoordPointer(size, ty, stride, at) => {
-            c.set_texcoord_pointer(*size, *ty, *stride, *at)
-        }
-        Call::ClientState(array, on) => c.set_client_state(*array, *on),
-        Call::ClientUnit(unit) => c.set_client_active_texture(*unit),
-        Call::Color(color) => c.current_color = *color,
-        Call::Coded(..) => unreachable!("a call for the library alone"),
-        Call::Draw(draw) => make_draw(c, guest, draw),
+fn fresh() -> Context {
+    let mut context = Context::new(1, 1);
+    let mut texture = Texture::default();
+    texture.define_level(0, 1, 1, vec![255; 4]);
+    context.textures.insert(TEXTURE, texture);
+    for unit in &mut context.texture_units {
+        unit.bound_texture = TEXTURE;
     }
+    context
+}
+
+/// The current colour is a field of the Rust.
+trait SetColor {
+    fn set_color(&mut self, color: [f32; 4]);
+}
+
+impl SetColor for Context {
+    fn set_color(&mut self, color: [f32; 4]) {
+        self.current_color = color;
+    }
+}
+
+fn make(c: &mut Context, guest: &mut Guest, call: &Call) {
+    make_call!(c, call, {
+        Call::Data(target, data) => c.buffer_data(*target, data.len(), Some(data), 0),
+        Call::SubData(target, offset, data) => c.buffer_sub_data(*target, *offset, data),
+        Call::Draw(draw) => make_draw(c, guest, draw),
+    })
 }
 
 fn make_draw(c: &mut Context, guest: &mut Guest, draw: &Draw) {
     raster::rewind();
+    for (u, unit) in c.texture_units.iter_mut().enumerate() {
+        unit.texture_enabled = draw.stages >> u & 1 == 1;
+    }
     match &draw.indices {
         Indices::Lent(list) => c.draw_elements(guest, draw.mode, list),
         Indices::Range(first, count) => c.draw_arrays(guest, draw.mode, *first, *count),
