@@ -156,13 +156,13 @@ typedef struct {
 } beonasul_settings;
 
 typedef struct {
-    uint32_t mode;
     beonasul_stacks stacks;
     beonasul_buffers buffers;
     beonasul_arrays arrays;
     beonasul_attributes attributes;
     beonasul_settings settings;
     uint32_t error; /* the error slot; 0: empty */
+    uint32_t mode; /* the matrix mode in force */
 } beonasul_context;
 
 /* ---- a triangle of the output */

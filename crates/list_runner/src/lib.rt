@@ -114,7 +114,7 @@ fn next_size(words: &[u32], place: usize) -> usize
 }
 
 // Makes the calls of a list, one after the other. The loop puts back the part that a call changes, and the error slot: the rest of the context is
-// not copied. After push, pop and a mode call the whole context comes back, which measured no slower.
+// not copied. After a mode call the whole context comes back: a choice is no part that can be put back by itself.
 pub fn run_on(
     c: Context,
     words: &[u32],
@@ -147,12 +147,16 @@ pub fn run_on(
         let w = &words[start..end];
         if code == 0x14 {
             let r = gles_matrix::push_matrix(c);
-            c = r.context;
+            let part = r.context.stacks;
+            c.stacks = part;
+            c.error = r.context.error;
             number = r.number;
             value = 0;
         } else if code == 0x15 {
             let r = gles_matrix::pop_matrix(c);
-            c = r.context;
+            let part = r.context.stacks;
+            c.stacks = part;
+            c.error = r.context.error;
             number = r.number;
             value = 0;
         } else if code == 0x10 {

@@ -73,13 +73,13 @@ pub struct KeptSettings {
 
 #[repr(C)]
 pub struct Kept {
-    pub mode: u32,
     pub stacks: Stacks,
     pub buffers: Buffers,
     pub arrays: Arrays,
     pub attributes: Attributes,
     pub settings: KeptSettings,
     pub error: u32,
+    pub mode: u32,
 }
 
 // ---- a choice as its enumerant

@@ -98,9 +98,12 @@ loop-again c =
     let i = next-inside words bytes (at .place) (size .result) 0 (size .ensures) is-one in
     let w = take (at .place + size .result - (at .place + 2)) (drop (at .place + 2) words) in
     let step : Stepped (at .c) (at .store) (at .out) (callOf bytes (length (at .out)) (code .result) w) (c .if2 .number) (c .if2 .value) (c .if2 .c) (c .if2 .store) (c .if2 .out) =
-    (⊎-elim (λ z. joined (stayed (performed (is-push bytes _ _ _ (z .0 .taken)) (z .1 .ensures _) refl refl)) (z .3) (z .4) (z .5) (z .6) (z .7))
-    (⊎-elim (λ z. joined (stayed (performed (is-pop bytes _ _ _ (z .1 .taken)) (z .2 .ensures _) refl refl)) (z .4) (z .5) (z .6) (z .7) (z .8))
-    (⊎-elim (λ z. joined (stayed (performed (ap mode (z .3 .ensures) ∙ is-mode bytes _ _ _ (z .2 .taken)) (z .4 .ensures _) refl refl)) (z .6) (z .7) (z .8) (z .9) (z .10))
+    (⊎-elim (λ z. let m = z .1 .ensures _ in
+    joined (stayed (performed (is-push bytes _ _ _ (z .0 .taken)) m refl refl)) (z .3) (z .4) (placed m (z .5)) (z .6) (z .7))
+    (⊎-elim (λ z. let m = z .2 .ensures _ in
+    joined (stayed (performed (is-pop bytes _ _ _ (z .1 .taken)) m refl refl)) (z .4) (z .5) (placed m (z .6)) (z .7) (z .8))
+    (⊎-elim (λ z. let m = z .4 .ensures _ in
+    joined (stayed (performed (ap mode (z .3 .ensures) ∙ is-mode bytes _ _ _ (z .2 .taken)) m refl refl)) (z .6) (z .7) (z .8) (z .9) (z .10))
     (⊎-elim (λ z. let m = z .5 .ensures _ in
     let floats = ap (λ (f : List Float). matrix (update (updateOf (code .result) f))) (z .4 .ensures) in
     joined (stayed (performed (floats ∙ is-update bytes _ _ _ (z .0 .left) (z .1 .left) (z .2 .left) (z .3 .taken)) m refl refl))
