@@ -15,7 +15,7 @@ const CONTEXT: usize = size_of::<State>();
 const SINGLE: f64 = 4.0;
 
 /// The most that a state call in a list may take, against the same in `beonasul_repeat`: the rest is noise.
-const IN_LIST: f64 = 1.25;
+const IN_LIST: f64 = 1.1;
 
 /// A context with its store and the guest memory of its draws.
 pub struct Station {
@@ -116,7 +116,7 @@ pub fn list_of(calls: &[Call], guest: &[u8]) -> List {
 
 /// Times several works by turns, each so often that it takes one slice. Gives the nanoseconds of each, the best of all rounds.
 fn by_turns<const N: usize>(plan: &Plan, mut works: [&mut dyn FnMut(u32); N]) -> [f64; N] {
-    let times: Vec<u32> = works.iter_mut().map(|work| count(plan, |n| work(n))).collect();
+    let times: Vec<u32> = works.iter_mut().map(|work| count(plan, &mut **work)).collect();
     let mut best = [f64::MAX; N];
     for round in 0..plan.rounds {
         for ((work, &n), best) in works.iter_mut().zip(&times).zip(&mut best) {
@@ -159,10 +159,11 @@ fn states(plan: &Plan) -> Vec<String> {
     println!("\n## As the station sees it: state calls, ns a call\n");
     println!("| call | one by one | copies of a context in and out | in a list | in a list of `beonasul_repeat` |\n|---|---|---|---|---|");
     let mut below = Vec::new();
+    let mut copies = Copies::new(CONTEXT);
     let (mut least_empty, mut least_copy) = (f64::MAX, f64::MAX);
     let stated = state_calls().into_iter().chain(other_calls());
     for (name, calls) in stated.filter(|(name, _)| plan.is_chosen(name)) {
-        let Taken { single, in_list, repeated, empty, copy } = state(plan, &calls);
+        let Taken { single, in_list, repeated, empty, copy } = state(plan, &calls, &mut copies);
         (least_empty, least_copy) = (least_empty.min(empty), least_copy.min(copy));
         let copies = single / copy;
         println!("| {name} | {single:.0} | {copies:.2} | {in_list:.1} | {repeated:.1} |");
@@ -179,7 +180,7 @@ fn states(plan: &Plan) -> Vec<String> {
 }
 
 /// The times of a few calls, each in the mean.
-fn state(plan: &Plan, calls: &[Call]) -> Taken {
+fn state(plan: &Plan, calls: &[Call], copies: &mut Copies) -> Taken {
     let work = stored_work(vec![calls; LIST].concat());
     let list = list_of(&work.again, &work.guest);
     let [mut one, mut other, mut idle] = std::array::from_fn(|_| Station::new(&work));
@@ -189,7 +190,6 @@ fn state(plan: &Plan, calls: &[Call]) -> Taken {
 
     let mut repeated = Ours::new(&work, 0);
     repeated.check();
-    let mut copies = Copies::new(CONTEXT);
     let none = List::new();
     let [single, full, empty, repeated, copy] = by_turns(
         plan,

@@ -159,7 +159,9 @@ impl Value for u32 {
     }
 }
 
-/// Appends a record whose words are the arguments, one after the other.
+/// Appends a record whose words are the arguments, one after the other. Inlined, it knows their
+/// types: that saves some nanoseconds a call.
+#[inline(always)]
 pub(crate) fn append(words: &mut Vec<u32>, code: u32, arguments: &[&dyn Argument]) {
     words.push(code);
     let count = words.len();
