@@ -8,11 +8,13 @@
    triangles, which stand from the start of g.out on; gen_buffers the first name; take_error the code. A refused call changes nothing but
    the error slot, save that a bind at a refused target still makes its name.
 
-   What the functions do is proved; docs/CALLS.md says which call of OpenGL ES each one is. What no contract can say, the host sees to:
+   What the library does with a list of calls is proved; the functions here, which write the words of a call, are tested. docs/CALLS.md
+   says which call of OpenGL ES each one is. What no contract can say, the host sees to:
    - Every pointer is valid, not null and aligned as its type asks, also where its length is 0.
    - Context, store, words, bytes and output do not overlap. What a call writes is the context, the store and the output.
    - The store of a context is lent to each of its calls and written by nobody else: its buffers' bytes lie there.
-   - Every bool in a context is 0 or 1. Any other numbers there are safe: those of no sound context are refused with 1.
+   - Every bool in a context is 0 or 1. Any other numbers there are safe: those of no sound context are refused with 1. The bytes between
+     its fields are nobody's: two equal contexts may differ there.
    - One thread at a time makes calls on a context. Two contexts with a store and an output each share nothing.
    - It is Linux on x86-64, and the thread's stack has 64 KB or more: a call takes some 40. */
 #ifndef BEONASUL_H
@@ -34,7 +36,7 @@
 /* What a call answers. From 0x0500 on they are codes of OpenGL ES and enter the error slot. */
 enum {
     BEONASUL_DONE = 0,
-    BEONASUL_NOT_SOUND = 1, /* the numbers of the context are no sound context's */
+    BEONASUL_NOT_SOUND = 1, /* the numbers of the context are no sound context's, or the store has another length */
     BEONASUL_GUEST_TOO_LONG = 2, /* the guest bytes end past 2^32 */
     BEONASUL_STAGE_MASK = 3, /* a stage mask of 16 or more */
     BEONASUL_NO_BUFFER_LEFT = 4, /* more than 16 names would live */
@@ -154,13 +156,13 @@ typedef struct {
 } beonasul_settings;
 
 typedef struct {
-    uint32_t mode;
     beonasul_stacks stacks;
     beonasul_buffers buffers;
     beonasul_arrays arrays;
     beonasul_attributes attributes;
     beonasul_settings settings;
     uint32_t error; /* the error slot; 0: empty */
+    uint32_t mode; /* the matrix mode in force */
 } beonasul_context;
 
 /* ---- a triangle of the output */
@@ -200,7 +202,7 @@ beonasul_reply beonasul_run(beonasul_context *context, uint8_t *store, size_t st
 }
 #endif
 
-/* ---- a context and what is lent to its calls. The host may set all but context and value as it likes, between any two calls. */
+/* ---- a context and what is lent to its calls. Between two calls the host may set guest view, output and room for words as it likes. */
 
 struct beonasul {
     beonasul_context context;

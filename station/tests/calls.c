@@ -267,6 +267,83 @@ static void check_draws(void)
     REFUSES(beonasul_draw_arrays(&g, BEONASUL_TRIANGLES, 0, 0, 3), BEONASUL_GUEST_TOO_LONG);
 }
 
+/* ---- enumerants: as many rising codes as a call knows are those that it knows */
+
+static uint32_t call_source(struct beonasul *context, uint32_t code) { return beonasul_set_blend_func(context, code, BEONASUL_ONE); }
+static uint32_t call_env(struct beonasul *context, uint32_t code) { return beonasul_tex_env(context, BEONASUL_TEXTURE_ENV_MODE, code); }
+static uint32_t call_fog(struct beonasul *context, uint32_t code) { return beonasul_set_fog(context, BEONASUL_FOG_MODE, (float)code); }
+
+/* The codes rise, and the call accepts them and no other code below 2^16. */
+static bool knows(uint32_t (*call)(struct beonasul *, uint32_t), const uint32_t *codes, size_t count)
+{
+    size_t next = 0;
+    for (uint32_t code = 0; code < 65536; code++) {
+        const bool is_next = next < count && codes[next] == code;
+        if ((call(&g, code) == BEONASUL_DONE) != is_next)
+            return false;
+        next += is_next;
+    }
+    return next == count;
+}
+
+#define KNOWS(call, ...) \
+    do { \
+        static const uint32_t codes[] = { __VA_ARGS__ }; \
+        check(knows(call, codes, sizeof codes / sizeof *codes), __LINE__, #call ": " #__VA_ARGS__); \
+    } while (0)
+
+static void check_enumerants(void)
+{
+    start();
+    KNOWS(beonasul_set_matrix_mode, BEONASUL_MODELVIEW, BEONASUL_PROJECTION, BEONASUL_TEXTURE);
+    KNOWS(beonasul_set_depth_func, BEONASUL_NEVER, BEONASUL_LESS, BEONASUL_EQUAL, BEONASUL_LEQUAL, BEONASUL_GREATER, BEONASUL_NOTEQUAL,
+          BEONASUL_GEQUAL, BEONASUL_ALWAYS);
+    KNOWS(call_source, BEONASUL_ZERO, BEONASUL_ONE, BEONASUL_SRC_COLOR, BEONASUL_ONE_MINUS_SRC_COLOR, BEONASUL_SRC_ALPHA,
+          BEONASUL_ONE_MINUS_SRC_ALPHA, BEONASUL_DST_ALPHA, BEONASUL_ONE_MINUS_DST_ALPHA, BEONASUL_DST_COLOR,
+          BEONASUL_ONE_MINUS_DST_COLOR, BEONASUL_SRC_ALPHA_SATURATE);
+    KNOWS(beonasul_set_cull_face, BEONASUL_FRONT, BEONASUL_BACK, BEONASUL_FRONT_AND_BACK);
+    KNOWS(beonasul_set_front_face, BEONASUL_CW, BEONASUL_CCW);
+    KNOWS(call_fog, BEONASUL_EXP, BEONASUL_EXP2, BEONASUL_LINEAR);
+    KNOWS(call_env, BEONASUL_ADD, BEONASUL_BLEND, BEONASUL_REPLACE, BEONASUL_MODULATE, BEONASUL_DECAL, BEONASUL_COMBINE);
+    for (uint32_t i = 0; i < 4; i++) {
+        static const uint32_t units[4] = { BEONASUL_TEXTURE0, BEONASUL_TEXTURE1, BEONASUL_TEXTURE2, BEONASUL_TEXTURE3 };
+        DOES(beonasul_set_multi_texcoord(&g, units[i], 8, 9), units[i] == 0x84C0 + i && g.context.attributes.pairs[i].s == 8);
+    }
+}
+
+/* The first bytes of an element, taken as each type. */
+static void check_types(void)
+{
+    static const uint8_t element[16] = { 0x81, 0x80, 0x80, 0xbf };
+    static const struct { uint32_t type; float x; } types[6] = {
+        { BEONASUL_BYTE, -127.0f }, { BEONASUL_UNSIGNED_BYTE, 129.0f }, { BEONASUL_SHORT, -32639.0f },
+        { BEONASUL_UNSIGNED_SHORT, 32897.0f }, { BEONASUL_FLOAT, -8421505.0f / 8388608.0f }, { BEONASUL_FIXED, -1082097536.0f / 65536.0f },
+    };
+    static const uint32_t indices[3] = { 0, 0, 0 };
+    start();
+    g.guest = element;
+    g.guest_len = sizeof element;
+    DOES(beonasul_set_client_state(&g, BEONASUL_VERTEX_ARRAY, true), true);
+    for (int i = 0; i < 6; i++) {
+        DOES(beonasul_set_vertex_pointer(&g, 2, types[i].type, 0, BASE), true);
+        DOES(beonasul_draw_elements(&g, BEONASUL_TRIANGLES, 0, indices, 3), beonasul_triangles(&g)->vertices[0].position[0] == types[i].x);
+    }
+}
+
+static void check_modes(void)
+{
+    static const uint32_t modes[7] = { BEONASUL_POINTS, BEONASUL_LINES, BEONASUL_LINE_LOOP, BEONASUL_LINE_STRIP,
+                                       BEONASUL_TRIANGLES, BEONASUL_TRIANGLE_STRIP, BEONASUL_TRIANGLE_FAN };
+    start();
+    DOES(beonasul_set_vertex_pointer(&g, 2, BEONASUL_BYTE, 0, BASE), true);
+    DOES(beonasul_set_client_state(&g, BEONASUL_VERTEX_ARRAY, true), true);
+    for (uint32_t i = 0; i < 7; i++) {
+        const uint32_t number = beonasul_draw_arrays(&g, modes[i], 0, 0, 4);
+        CHECK(modes[i] == i && number == (i < 4 ? (uint32_t)BEONASUL_NO_TRIANGLES : (uint32_t)BEONASUL_DONE));
+        CHECK(g.value == (i < 4 ? 0u : i == 4 ? 1u : 2u));
+    }
+}
+
 /* ---- lists, and contexts that are none */
 
 static beonasul_reply run(const uint32_t *words, size_t n)
@@ -302,6 +379,9 @@ static void *check_all(void *unused)
     check_arrays();
     check_settings();
     check_draws();
+    check_enumerants();
+    check_types();
+    check_modes();
     check_lists();
     return unused;
 }

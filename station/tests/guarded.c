@@ -144,7 +144,7 @@ static void check_left_alone(const area *lent, void *const *from, const uint32_t
     must((uploads && reply->number == 0) || is_same(&lent[STORE], from[STORE], 0), "the store has changed");
 }
 
-/* The bytes between the fields of a context, which are nobody's: three behind each bool, four behind the mode, those behind the error. */
+/* The bytes between the fields of a context, which are nobody's: three behind each bool, those behind the mode. */
 static void clear_between(uint8_t *context)
 {
     static const size_t bools[] = {
@@ -157,10 +157,9 @@ static void clear_between(uint8_t *context)
         offsetof(beonasul_context, settings.alpha_test), offsetof(beonasul_context, settings.blend),
         offsetof(beonasul_context, settings.cull), offsetof(beonasul_context, settings.fog),
     };
-    const size_t end = offsetof(beonasul_context, error) + sizeof(uint32_t);
+    const size_t end = offsetof(beonasul_context, mode) + sizeof(uint32_t);
     for (size_t i = 0; i < sizeof bools / sizeof *bools; i++)
         memset(context + bools[i] + 1, 0, 3);
-    memset(context + sizeof(uint32_t), 0, offsetof(beonasul_context, stacks) - sizeof(uint32_t));
     memset(context + end, 0, sizeof(beonasul_context) - end);
 }
 

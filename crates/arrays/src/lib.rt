@@ -27,6 +27,7 @@ pub const TEXTURE0: u32 = 0x84C0;
 pub const INVALID_ENUM: u32 = 0x0500;
 
 // The seven arrays, and the client unit: the unit whose array a texture coordinate call is on.
+#[repr(C)]
 pub struct Arrays {
     pub vertex: ArrayPointer,
     pub color: ArrayPointer,
@@ -265,12 +266,14 @@ pub fn set_client_active_texture(a: Arrays, unit: u32) -> ArraysAnswer
 }
 
 // Texture coordinates s and t.
+#[repr(C)]
 pub struct Pair {
     pub s: f32,
     pub t: f32,
 }
 
 // What a vertex has where an array is disabled: the current colour, and a pair for each unit.
+#[repr(C)]
 pub struct Attributes {
     pub color: [f32; 4],
     pub pairs: [Pair; UNIT_COUNT],

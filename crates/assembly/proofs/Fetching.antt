@@ -13,7 +13,7 @@ use Rattle.fetch.specs.declared.Vec4.{Vec4}
 use Rattle.vertex.specs.Scene.{Scene}
 use Rattle.vertex.specs.Vertex.{elementOf, positionOf}
 use Rattle.vertex.specs.Questions.{positionAt}
-use Rattle.assembly.specs.Elements.{locationOf, Locates, PreparesFor}
+use Rattle.assembly.specs.ElementsCode.{locationOf, Locates, PreparesFor}
 use Rattle.assembly.specs.declared.Location.{Location}
 use Rattle.assembly.specs.declared.Prepared.{Prepared}
 

@@ -5,21 +5,20 @@ use mathlib.Core.Option.{Option}
 use mathlib.Core.Path.{_≡_, refl, sym, ap, _∙_}
 use Prim.Native.Nat.{ℕ, _+_, _-_, _*_, _<_, _≤_, min}
 use native.Mathlib.Omega.{arith}
-use borrow.Author.Tests.{lt-ltb, le-ltb, ltb-true, ltb-false}
+use borrow.Author.Tests.{lt-ltb, ltb-true, ltb-false}
 use lib.Dec.{eqb, ltb}
-use lib.ListN.{length, take, drop}
-use Rattle.fetch.specs.Decode.{componentBytes, vectorOf}
-use Rattle.fetch.specs.Fetch.{Part, Address, bytes, noBuffer, unreadable, lastAddress, elementBytes, strideOf, addressOf, partOf, decoded, fetchedAt, fetched}
+use Rattle.fetch.specs.Decode.{componentBytes}
+use Rattle.fetch.specs.Fetch.{Part, Address, noBuffer, unreadable, lastAddress, elementBytes, strideOf, addressOf, partOf, decoded, fetchedAt, fetched}
 use Rattle.fetch.specs.FetchCode.{partSource}
 use Rattle.fetch.specs.declared.ArrayPointer.{ArrayPointer}
 use Rattle.fetch.specs.declared.Extent.{Extent}
 use Rattle.fetch.specs.declared.Fetched.{Fetched}
-use Rattle.assembly.specs.Elements.{stepOf, missingAt, locationAt, locationOf, Locates, Prepares}
+use Rattle.assembly.specs.ElementsCode.{missingAt, locationAt, locationOf, Locates, Prepares}
 use Rattle.assembly.specs.declared.Failure.{Failure}
 use Rattle.assembly.specs.declared.Location.{Location}
 use Rattle.assembly.specs.declared.Prepared.{Prepared}
+use Rattle.fetch.proofs.Extents.{Covers}
 use Rattle.assembly.proofs.Addresses.{no-type, long, far, past, there}
-use Rattle.assembly.proofs.Extents.{Covers}
 
 module _ (contents : ℕ → Option (List ℕ)) (base : ℕ) (store guest : List ℕ) (a : ArrayPointer) where
   abbrev part : ℕ → ℕ → Part
@@ -70,10 +69,10 @@ module _ (contents : ℕ → Option (List ℕ)) (base : ℕ) (store guest : List
 
       module _ (len : ℕ) (l : len ≡ width * a .size) (h : len ≤ lastAddress) where
         abbrev step : ℕ
-        step = stepOf (a .stride) len
+        step = strideOf a
 
         step-is : step ≡ cond (eqb (a .stride) 0) (width * a .size) (a .stride)
-        step-is = rw (le-ltb lastAddress len h, l)
+        step-is = rw w
 
         element-length : len ≡ elementBytes a
         element-length = l ∙ ap (λ (k : ℕ). k * a .size) w

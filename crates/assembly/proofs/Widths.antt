@@ -1,14 +1,14 @@
 -- The widths of the types, and the bytes of a component. Assumes nothing.
-use Prim.Native.Nat.{ℕ, suc, _+_, _*_, _^_, _<_, _≤_}
+use Prim.Native.Nat.{ℕ, suc, _+_, _*_, _<_, _≤_}
 use mathlib.Core.Bool.{Bool, true, false, cond, _||_}
 use mathlib.Core.Path.{_≡_, refl, sym}
-use mathlib.Core.Logic.{_⊎_, inl, inr}
+use mathlib.Core.Logic.{inl, inr}
 use native.Mathlib.Nat.{mul-le-mul-left, mul-suc}
 use native.Mathlib.Omega.{arith}
 use borrow.Author.Tests.{eqb-true, ne-eqb}
 use lib.Dec.{eqb}
 use Rattle.fetch.specs.Decode.{componentBytes}
-use Rattle.assembly.specs.Elements.{OneTwoFour}
+use Rattle.assembly.specs.ElementsCode.{OneTwoFour}
 
 pub width-small : (ty : ℕ) → componentBytes ty ≤ 4
 unfolding componentBytes

@@ -9,7 +9,7 @@ use lib.ListN.{length, set, length-append}
 use lib.Seq.{sets}
 use Rattle.vertex.specs.Vertex.{vertexWords}
 use Rattle.vertex.specs.declared.Vertex.{Vertex}
-use Rattle.assembly.specs.Corners.{cornerWords}
+use Rattle.assembly.specs.CornersCode.{cornerWords}
 
 module _ {A : Type 0} where
   -- two runs, the second where the first ends

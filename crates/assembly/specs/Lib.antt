@@ -1,2 +1,3 @@
-pub mod Elements
-pub mod Corners
+pub mod Triangles
+pub mod ElementsCode
+pub mod CornersCode

@@ -9,24 +9,25 @@ use vertex::DrawInputs;
 use vertex::Indices;
 use vertex::Vertex;
 ghost use mathlib.Core.Path.{_≡_};
-ghost use mathlib.Core.Bool.{Bool, true, false, cond};
-ghost use mathlib.Core.List.{List, [], _∷_};
-ghost use Prim.Native.Nat.{ℕ, _+_, _-_, _*_, _^_, _<_, _≤_, min};
-ghost use lib.Dec.{eqb, ltb, leb};
-ghost use lib.ListN.{length, take, drop};
+ghost use mathlib.Core.Bool.{Bool, true, false};
+ghost use mathlib.Core.List.{List};
+ghost use Prim.Native.Nat.{ℕ, _+_, _-_, _*_, _/_, _^_, _<_, _≤_, min};
+ghost use lib.ListN.{length, getD, take, drop};
 ghost use lib.Seq.{sets};
 ghost use Rattle.number.specs.Numbers.{littleEndian, signedAt};
 ghost use Rattle.buffers.specs.Bounded.{first};
 ghost use Rattle.buffers.specs.Objects.{contentsOf};
+ghost use Rattle.corners.specs.Places.{cornerPlace};
 ghost use Rattle.fetch.specs.Decode.{componentBytes, unsignedComponent, signedComponent, componentOf, component, vectorOf};
-ghost use Rattle.fetch.specs.Fetch.{lastAddress, positionNumber};
+ghost use Rattle.fetch.specs.Fetch.{lastAddress, elementBytes, strideOf, positionNumber};
 ghost use Rattle.fetch.specs.FetchCode.{partSource};
 ghost use Rattle.vertex.specs.SceneCode.{sceneIn, indexList};
 ghost use Rattle.vertex.specs.Vertex.{elementOf, objectPosition, colorOf, componentsOr, origin, hasStage, pairFrom, transformedPair};
 ghost use Rattle.vertex.specs.Vertex.{unitArray, pairOf, pairWords, texcoordsOf, vertexOf, four, vertexWords};
 ghost use Rattle.vertex.specs.Questions.{positionAt, fails, hasVertices, listNumber};
-ghost use Rattle.assembly.specs.Elements.{OneTwoFour, stepOf, missingAt, locationOf, Locates, Prepares, PreparesFor, Plans};
-ghost use Rattle.assembly.specs.Corners.{cornerIndex, cornersWritten, cornerWords};
+ghost use Rattle.assembly.specs.ElementsCode.{OneTwoFour, missingAt, locationOf, Locates, Prepares, PreparesFor, Plans};
+ghost use Rattle.assembly.specs.Triangles.{vertexAt, trianglesTo, wordsOf};
+ghost use Rattle.assembly.specs.CornersCode.{cornerWords};
 
 // Bytes of a component, 0 for an unknown type.
 fn component_bytes(ty: u32) -> u32
@@ -291,9 +292,9 @@ fn last_address(low: u32, room: usize, len: usize) -> u32
     0xffff_ffff
 }
 
-// The stride, or the element's length where it is 0; 0 for a length past 32 bits.
+// The distance between elements, by the stride and the element's length. It is 0 for a length past 32 bits: such an array has no element.
 fn step_of(stride: u32, len: u64) -> u32
-    ensures { λ r. ⌜ r ≡ stepOf stride len ⌝ }
+    ensures { λ r. ⌜ ((a : ArrayPointer) → stride ≡ a .stride → len ≡ elementBytes a → len ≤ lastAddress → r ≡ strideOf a) ⌝ }
 {
     if stride != 0 {
         return stride;
@@ -794,7 +795,7 @@ fn write_vertex(out: &mut [f32], at: usize, v: Vertex)
 // The index of a corner.
 fn corner_index(p: Primitive, kind: Indices, list: &[u32], elements: &[u8], c: usize) -> u32
     requires { ⌜ c < 0x4000_0000_0000_0000 ⌝ }
-    ensures { λ r. ⌜ r ≡ cornerIndex p (indexList kind (now (list .entry)) (now (elements .entry))) c ⌝ }
+    ensures { λ r. ⌜ r ≡ getD (indexList kind (now (list .entry)) (now (elements .entry))) (cornerPlace p c) 0 ⌝ }
 {
     vertex::index_at(kind, list, elements, corners::corner_place(p, c))
 }
@@ -814,7 +815,7 @@ fn write_planned<'a>(
 )
     requires { ⌜ (17 * n ≤ length (now out)) × Plans (sceneIn s (now store) (now guest)) (now store) plan ⌝ }
     ensures { λ _. ⌜ now (out .exit) ≡ sets (now (out .entry)) 0
-        (cornerWords (λ q. vertexOf (sceneIn s (now (store .entry)) (now (guest .entry))) (cornerIndex p (indexList kind (now (list .entry)) (now (elements .entry))) q)) n) ⌝ }
+        (cornerWords (λ q. vertexAt (sceneIn s (now (store .entry)) (now (guest .entry))) (indexList kind (now (list .entry)) (now (elements .entry))) (cornerPlace p q)) n) ⌝ }
 {
     let mut c = 0;
     while c < n {
@@ -825,7 +826,7 @@ fn write_planned<'a>(
     }
 }
 
-// Writes the first n corners of the index list's triangles; nothing where the output has no room for them.
+// Writes the first n corners of the index list's triangles, three to a triangle; nothing where the output has no room for them.
 pub fn write_corners<'a>(
     s: DrawInputs,
     store: &'a [u8],
@@ -837,8 +838,10 @@ pub fn write_corners<'a>(
     n: usize,
     out: &mut [f32],
 )
-    ensures { λ _. ⌜ now (out .exit) ≡ cornersWritten (λ q. vertexOf (sceneIn s (now (store .entry)) (now (guest .entry)))
-        (cornerIndex p (indexList kind (now (list .entry)) (now (elements .entry))) q)) n (now (out .entry)) ⌝ }
+    ensures { λ _. ⌜ (17 * n ≤ length (now (out .entry))
+        → now (out .exit) ≡ sets (now (out .entry)) 0 (take (17 * n) (wordsOf (trianglesTo (vertexAt (sceneIn s (now (store .entry)) (now (guest .entry)))
+        (indexList kind (now (list .entry)) (now (elements .entry)))) p ((n + 2) / 3)))))
+        × (length (now (out .entry)) < 17 * n → now (out .exit) ≡ now (out .entry)) ⌝ }
 {
     if out.len() / 17 < n {
         return;

@@ -44,12 +44,14 @@ pub const INVALID_VALUE: u32 = 0x0501;
 pub const INVALID_OPERATION: u32 = 0x0502;
 
 // A slot for a live buffer: its name and its length in bytes. Name 0 marks a free slot. Document 01 calls a slot a row.
+#[repr(C)]
 pub struct Slot {
     pub name: u32,
     pub len: u32,
 }
 
 // The buffer objects. Slot k's bytes are the first `len` of the 4,096 from 4096 * k in the borrowed store.
+#[repr(C)]
 pub struct Buffers {
     pub slots: [Slot; SLOT_COUNT],
     pub next: u32,

@@ -2,14 +2,13 @@
 use mathlib.Core.List.{List}
 use mathlib.Core.Logic.{⊎-elim}
 use mathlib.Core.Option.{Option, some}
-use mathlib.Core.Path.{_≡_, refl, sym, ap, _∙_}
+use mathlib.Core.Path.{_≡_, sym, ap, _∙_}
 use Prim.Native.Nat.{ℕ, _<_}
 use native.Mathlib.Omega.{arith}
 use lib.Ieee.{Float}
 use lib.ListN.{length, length-take, length-drop}
 use Rattle.vertex.specs.Scene.{DrawCall}
-use Rattle.draw.specs.Draw.{Drawing, Draws, outputOf}
-use Rattle.draw.specs.Triangles.{Triangle}
+use Rattle.draw.specs.Draw.{Drawing, Draws}
 use Rattle.draw.specs.declared.Drawn.{Drawn}
 use Rattle.buffers.specs.Objects.{slotCount, storeBytes, absent, bytesOf, lenAt, slotOf, contentsOf, genFirst}
 use Rattle.buffers.specs.declared.Slot.{Slot}

@@ -35,6 +35,7 @@ pub enum MatrixMode {
     Texture,
 }
 
+#[repr(C)]
 pub struct Stacks {
     pub modelview: MatrixStack,
     pub projection: MatrixStack,

@@ -1,7 +1,7 @@
 // Which places of a list of indices are the corners of triangles, and how many triangles there are.
 ghost use mathlib.Core.Path.{_≡_};
-ghost use Rattle.corners.specs.Places.{triangleCount, primitiveOf};
-ghost use Rattle.corners.specs.PlacesCode.{cornersIn, placeIn};
+ghost use Prim.Native.Nat.{_<_, _≤_};
+ghost use Rattle.corners.specs.Places.{primitiveOf, triangleCount, cornersOf, cornerPlace};
 
 pub enum Primitive {
     Triangles,
@@ -21,7 +21,7 @@ const REACH: usize = 0x4000_0000_0000_0000;
 
 // The corners of triangle t; 0 for each out of reach.
 pub fn corners_of(p: Primitive, t: usize) -> Corners
-    ensures { λ r. ⌜ r ≡ cornersIn p t ⌝ }
+    ensures { λ r. ⌜ (t < 0x4000_0000_0000_0000 → r ≡ cornersOf p t) × (0x4000_0000_0000_0000 ≤ t → r ≡ record { a = 0; b = 0; c = 0 }) ⌝ }
 {
     if REACH <= t {
         return Corners { a: 0, b: 0, c: 0 };
@@ -57,7 +57,7 @@ pub fn corners_of(p: Primitive, t: usize) -> Corners
 
 // The place in the index list of a corner, the corners of all triangles numbered from 0; 0 out of reach.
 pub fn corner_place(p: Primitive, c: usize) -> usize
-    ensures { λ r. ⌜ r ≡ placeIn p c ⌝ }
+    ensures { λ r. ⌜ (c < 0x4000_0000_0000_0000 → r ≡ cornerPlace p c) × (0x4000_0000_0000_0000 ≤ c → r ≡ 0) ⌝ }
 {
     if REACH <= c {
         return 0;

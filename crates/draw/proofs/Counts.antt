@@ -2,7 +2,7 @@
 use mathlib.Core.Bool.{Bool, true, false, not, cond}
 use mathlib.Core.List.{List, []}
 use mathlib.Core.Path.{_≡_, refl, sym, ap, subst, _∙_}
-use Prim.Native.Nat.{ℕ, _+_, _-_, _*_, _<_, _≤_}
+use Prim.Native.Nat.{ℕ, _+_, _*_, _<_, _≤_}
 use native.Mathlib.Omega.{arith}
 use borrow.Author.Tests.{ltb-true, ltb-false, eqb-true, eqb-false, not-true, not-false, ne-eqb}
 use lib.Dec.{eqb, ltb, leb}
@@ -16,7 +16,7 @@ use Rattle.vertex.proofs.Search.{first-real}
 use Rattle.vertex.proofs.IndexLists.{length-upFrom, length-numbers}
 use Rattle.vertex.proofs.Sources.{part-there}
 use Rattle.corners.specs.Places.{triangleCount, primitiveOf}
-use Rattle.draw.specs.Triangles.{Triangle}
+use Rattle.assembly.specs.Triangles.{Triangle}
 use Rattle.draw.specs.Draw.{trianglesOf, drawIn, Drawing}
 use Rattle.draw.proofs.Drawing.{count-drawn}
 

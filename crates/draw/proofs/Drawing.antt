@@ -13,11 +13,11 @@ use Rattle.vertex.specs.Index.{numbers, indexWidth, indexPart, indicesIn, indic
 use Rattle.vertex.specs.Questions.{listNumber, validation}
 use Rattle.vertex.specs.declared.Vertex.{Vertex}
 use Rattle.corners.specs.Places.{triangleCount, primitiveOf}
-use Rattle.draw.specs.Triangles.{Triangle, trianglesTo, wordsOf}
-use Rattle.draw.specs.Draw.{vertexAt, trianglesOf, drawAnswer, drawIn, Draws}
+use Rattle.assembly.specs.Triangles.{Triangle, vertexAt, trianglesTo, wordsOf}
+use Rattle.draw.specs.Draw.{trianglesOf, drawAnswer, drawIn, Draws}
 use Rattle.draw.specs.declared.Drawn.{Drawn}
 use Rattle.corners.specs.declared.Primitive.{Primitive}
-use Rattle.draw.proofs.Laws.{count-triangles, words-stored}
+use Rattle.assembly.proofs.Triangles.{count-triangles, words-stored}
 
 -- ---- the output
 

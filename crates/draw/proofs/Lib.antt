@@ -1,4 +1,2 @@
-pub mod Laws
 pub mod Drawing
 pub mod Counts
-pub mod CornerLists

@@ -4,20 +4,14 @@ use mathlib.Core.List.{List, [], _++_}
 use mathlib.Core.Path.{_≡_}
 use Prim.Native.Nat.{ℕ, _*_}
 use lib.Dec.{ltb, eqb}
-use lib.ListN.{length, getD, drop}
+use lib.ListN.{length, drop}
 use lib.Ieee.{Float}
 use Rattle.corners.specs.Places.{primitiveOf, triangleCount}
 use Rattle.vertex.specs.Scene.{DrawState, Source, DrawCall, Scene, sceneOf}
 use Rattle.vertex.specs.Index.{indicesFrom}
-use Rattle.vertex.specs.Vertex.{vertexOf}
 use Rattle.vertex.specs.Questions.{validation}
-use Rattle.vertex.specs.declared.Vertex.{Vertex}
-use Rattle.draw.specs.Triangles.{Triangle, trianglesTo, wordsOf}
+use Rattle.assembly.specs.Triangles.{Triangle, vertexAt, trianglesTo, wordsOf}
 use Rattle.draw.specs.declared.Drawn.{Drawn}
-
--- the vertex at a place of a list of indices
-abbrev pub vertexAt : Scene → List ℕ → ℕ → Vertex
-vertexAt s is place = vertexOf s (getD is place 0)
 
 -- the triangles of a list of indices
 abbrev pub trianglesOf : Scene → ℕ → List ℕ → List Triangle

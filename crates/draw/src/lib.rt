@@ -3,14 +3,14 @@ use corners::Primitive;
 use vertex::DrawInputs;
 use vertex::Indices;
 ghost use mathlib.Core.Path.{_≡_};
-ghost use Prim.Native.Nat.{ℕ, _+_, _*_, _<_, _≤_};
-ghost use lib.ListN.{length, take, drop};
+ghost use Prim.Native.Nat.{ℕ, _*_, _<_, _≤_};
+ghost use lib.ListN.{length};
 ghost use lib.Seq.{sets};
 ghost use Rattle.vertex.specs.Scene.{Source};
 ghost use Rattle.vertex.specs.SceneCode.{sceneIn, indexList};
 ghost use Rattle.vertex.specs.Questions.{listNumber};
-ghost use Rattle.draw.specs.Triangles.{trianglesTo, wordsOf};
-ghost use Rattle.draw.specs.Draw.{vertexAt, trianglesOf, drawAnswer, drawIn, Draws};
+ghost use Rattle.assembly.specs.Triangles.{vertexAt, trianglesTo, wordsOf};
+ghost use Rattle.draw.specs.Draw.{trianglesOf, drawAnswer, drawIn, Draws};
 
 // Writes the first `count` triangles.
 fn write_triangles<'a>(

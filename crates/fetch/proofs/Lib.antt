@@ -1,2 +1,3 @@
 -- Laws that several proofs share.
 pub mod Parts
+pub mod Extents

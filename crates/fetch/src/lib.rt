@@ -3,11 +3,15 @@ use buffers::Buffers;
 use buffers::SLOT_BYTES;
 use buffers::SLOT_COUNT;
 ghost use mathlib.Core.Path.{_≡_};
+ghost use mathlib.Core.Bool.{true, false, cond};
+ghost use mathlib.Core.List.{List};
+ghost use mathlib.Core.Option.{some, none};
 ghost use Prim.Native.Nat.{ℕ, _+_, _-_, _*_, _<_, _≤_, min};
+ghost use lib.Dec.{eqb};
 ghost use lib.ListN.{length, take, drop};
-ghost use Rattle.buffers.specs.Objects.{slotCount, slotBytes, contentsOf, lenAt};
+ghost use Rattle.buffers.specs.Objects.{slotCount, slotBytes, slotOf, contentsOf, lenAt};
 ghost use Rattle.fetch.specs.Fetch.{freshArray, inBuffer, inGuest, partOf, partState, isFound, bytesIn};
-ghost use Rattle.fetch.specs.FetchCode.{partSource, Located, extentOf};
+ghost use Rattle.fetch.specs.FetchCode.{partSource, Located};
 
 // Four components.
 pub struct Vec4 {
@@ -27,6 +31,7 @@ pub enum Fetched {
 }
 
 // A client array. With a buffer its pointer is an offset into it, else a guest address.
+#[repr(C)]
 pub struct ArrayPointer {
     pub enabled: bool,
     pub size: u32,
@@ -224,7 +229,10 @@ pub struct Extent {
 
 // The extent of a buffer, or with buffer 0 of the guest bytes; not known where the buffer is absent.
 pub fn find_extent(b: Buffers, store: &[u8], base: u32, guest: &[u8], buffer: u32) -> Extent
-    ensures { λ r. ⌜ r ≡ extentOf (b .slots) (length (now (store .entry))) base (length (now (guest .entry))) buffer ⌝ }
+    ensures { λ r. ⌜ (buffer ≡ 0 → r ≡ record { known = true; low = base; origin = 0; room = length (now (guest .entry)) })
+        × (0 < buffer → contentsOf (b .slots) (now (store .entry)) buffer ≡ none → r ≡ record { known = false; low = 0; origin = 0; room = 0 })
+        × ((held : List ℕ) → contentsOf (b .slots) (now (store .entry)) buffer ≡ some held
+        → r ≡ record { known = true; low = 0; origin = cond (eqb (length held) 0) 0 (slotBytes * slotOf (b .slots) buffer); room = length held }) ⌝ }
 {
     if buffer == 0 {
         return Extent {

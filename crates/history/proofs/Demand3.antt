@@ -1,5 +1,5 @@
 -- The proof of specs/Demand3.antt. Assumes nothing.
-use mathlib.Core.List.{List, [], _∷_, _++_}
+use mathlib.Core.List.{List}
 use mathlib.Core.Logic.{⊎-elim}
 use mathlib.Core.Path.{_≡_, refl, sym, ap, subst, _∙_}
 use Prim.Native.Nat.{ℕ, zero, suc, _*_, _<_, _≤_}
@@ -11,11 +11,11 @@ use Rattle.buffers.specs.Objects.{storeBytes}
 use Rattle.vertex.specs.Scene.{DrawState, DrawCall, Scene, sceneOf}
 use Rattle.vertex.specs.Index.{indexTotal}
 use Rattle.corners.specs.Places.{triangleCount, primitiveOf}
-use Rattle.draw.specs.Triangles.{Triangle, wordsOf}
+use Rattle.assembly.specs.Triangles.{Triangle, wordsOf}
 use Rattle.draw.specs.Draw.{Drawing, drawOf, Draws}
 use Rattle.draw.specs.declared.Drawn.{Drawn}
 use Rattle.corners.proofs.Places.{count-le}
-use Rattle.draw.proofs.Laws.{length-words}
+use Rattle.assembly.proofs.Triangles.{length-words}
 use Rattle.draw.proofs.Counts.{refused-none, accepted-count}
 use Rattle.context.specs.declared.Context.{Context}
 use Rattle.context.specs.declared.DrawReply.{DrawReply}

@@ -5,13 +5,13 @@ use list_records::CallReply;
 ghost use mathlib.Core.Bool.{true};
 ghost use mathlib.Core.Path.{_≡_};
 ghost use Rattle.context.specs.Calls.{Call, ObjectCall, BufferCall};
-ghost use Rattle.context.specs.Contract.{Did};
+ghost use Rattle.context.specs.Contract.{Did, Does};
 ghost use Rattle.list_records.specs.Encoding.{dataOf, subDataOf, bufferOf};
 ghost use Rattle.list_records.specs.Perform.{bufferValue};
-ghost use Rattle.list_records.specs.PerformCode.{Gives};
 
 fn make_gen(c: Context, n: usize) -> CallReply
-    ensures { λ r. ⌜ (r .known ≡ true) × Gives (Call.object (ObjectCall.buffer (BufferCall.genBuffers n))) c (r .number) (r .value) (r .context) ⌝ }
+    ensures { λ r. ⌜ (r .known ≡ true) × Does (Call.object (ObjectCall.buffer (BufferCall.genBuffers n))) c (r .number) (r .context)
+        × (r .value ≡ bufferValue (BufferCall.genBuffers n) c (r .number)) ⌝ }
 {
     let g = gles_buffers::gen_buffers(c, n);
     let number = g.number;

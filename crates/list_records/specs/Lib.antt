@@ -1,3 +1,2 @@
 pub mod Encoding
 pub mod Perform
-pub mod PerformCode

@@ -8,8 +8,7 @@ ghost use Rattle.context.specs.Calls.{Call, ObjectCall};
 ghost use Rattle.context.specs.Contract.{Does};
 ghost use Rattle.list_words.specs.Words.{wordAt, fourFloats};
 ghost use Rattle.list_records.specs.Encoding.{updateOf, matrixOf, arrayCallOf, attributeOf, pipelineOf, isRecord};
-ghost use Rattle.list_records.specs.Perform.{replyOf};
-ghost use Rattle.list_records.specs.PerformCode.{Gives};
+ghost use Rattle.list_records.specs.Perform.{valueOf, replyOf};
 
 // What a call answers: besides its number the first name of gen_buffers, the code of take_error or the count of a draw. `known` is false where the words were no record's.
 pub struct CallReply {
@@ -137,7 +136,7 @@ pub fn replied(r: Reply) -> CallReply
 }
 
 pub fn make_take_error(c: Context) -> CallReply
-    ensures { λ r. ⌜ (r .known ≡ true) × Gives Call.takeError c (r .number) (r .value) (r .context) ⌝ }
+    ensures { λ r. ⌜ (r .known ≡ true) × Does Call.takeError c (r .number) (r .context) × (r .value ≡ valueOf Call.takeError c (r .number)) ⌝ }
 {
     let e = gles_pipeline::take_error(c);
     let number = e.number;

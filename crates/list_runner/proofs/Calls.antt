@@ -22,10 +22,8 @@ use Rattle.context.specs.Calls.{BufferCall, buffer, array, Call, matrix, mode, 
 use Rattle.list_records.specs.declared.CallReply.{CallReply}
 use Rattle.list_words.specs.Words.{wordAt, fourFloats, matrixFloats}
 use Rattle.list_records.specs.Encoding.{updateOf, matrixOf, bufferOf, arrayCallOf, attributeOf, pipelineOf, sourceOf, drawOfWords, callOf, isRecord, recordCall}
-use Rattle.list_records.specs.Perform.{isDraw, valueOf, DrewIn, replyOf, called, drew, Performs, was-made, was-unknown}
-use Rattle.list_records.specs.PerformCode.{Gives}
+use Rattle.list_records.specs.Perform.{isDraw, valueOf, DrewIn, replyOf, Performed, called, drew, Performs, was-made, was-unknown}
 use Rattle.list_buffers.proofs.Answers.{Answers}
-use Rattle.list_runner.specs.Run.{Changes}
 
 -- ---- which group a code is of
 
@@ -100,8 +98,9 @@ module _ {k′ : Call} {c : Context} {out : List Float} {r : CallReply} where
       → k ≡ k′ → r ≡ replyOf n 0 c1 → Does k c n c1 → isDraw k ≡ false → 0 ≡ valueOf k c n → Performs c s out r s out (some k′)
   performs {k = k} {s = s} e q m f v = performs-is e (subst (λ (x : CallReply). Performs c s out x s out (some k)) (sym q) (was-made refl (called (m s) f v refl)))
 
-  pub performs-value : {k : Call} {s : List ℕ} → k ≡ k′ → (r .known ≡ true) × Gives k c (r .number) (r .value) (r .context) → isDraw k ≡ false → Performs c s out r s out (some k′)
-  performs-value {s = s} e g f = performs-is e (was-made (g .0) (called (g .1 .does s) f (g .1 .value-is) refl))
+  pub performs-value : {k : Call} {s : List ℕ}
+      → k ≡ k′ → (r .known ≡ true) × Does k c (r .number) (r .context) × (r .value ≡ valueOf k c (r .number)) → isDraw k ≡ false → Performs c s out r s out (some k′)
+  performs-value {s = s} e g f = performs-is e (was-made (g .0) (called (g .1 s) f (g .2) refl))
 
   pub performs-buffer : {k : BufferCall} {s s1 : List ℕ} → object (buffer k) ≡ k′ → Answers k c s r s1 → Performs c s out r s1 out (some k′)
   performs-buffer e a = performs-is e (was-made (a .0 .0) (called (a .0 .1) refl (a .1) refl))
@@ -120,17 +119,18 @@ module _ (bytes : List ℕ) (room code : ℕ) (w : List ℕ) {c : Context} {s : 
       → Performs c s out r s1 out1 (some (callOf bytes room code w)) → Performs c s out r s1 out1 (recordCall bytes room code w)
   a-record-call e p = rw e p
 
--- ---- the same for a list, which keeps the context alone
+-- ---- the same for a list, where the parts of the answer come one by one
 
-changes-is : {k k′ : Call} {c c1 : Context} {s s1 : List ℕ} {out out1 : List Float} → k ≡ k′ → Changes c s out c1 s1 out1 k → Changes c s out c1 s1 out1 k′
-changes-is {c = c} {c1 = c1} {s = s} {s1 = s1} {out = out} {out1 = out1} e p = subst (λ (k : Call). Changes c s out c1 s1 out1 k) e p
+performed-is : {k k′ : Call} {c c1 : Context} {s s1 : List ℕ} {out out1 : List Float} {n v : ℕ} → k ≡ k′ → Performed c s out n v c1 s1 out1 k → Performed c s out n v c1 s1 out1 k′
+performed-is {c = c} {c1 = c1} {s = s} {s1 = s1} {out = out} {out1 = out1} {n = n} {v = v} e p = subst (λ (k : Call). Performed c s out n v c1 s1 out1 k) e p
 
 module _ {k′ : Call} {c : Context} {out : List Float} where
-  pub changes : {k : Call} {n : ℕ} {c1 : Context} {s s1 : List ℕ} → k ≡ k′ → Did k c s n c1 s1 → isDraw k ≡ false → Changes c s out c1 s1 out k′
-  changes {k = k} {n = n} e m f = changes-is e (record { number = n; value = valueOf k c n; made = called m f refl refl })
+  pub performed : {k : Call} {n v : ℕ} {c1 : Context} {s s1 : List ℕ} → k ≡ k′ → Did k c s n c1 s1 → isDraw k ≡ false → v ≡ valueOf k c n → Performed c s out n v c1 s1 out k′
+  performed e m f v = performed-is e (called m f v refl)
 
-  pub changes-draw : {d : DrawCall} {s : List ℕ} {out1 : List Float} {a : DrawReply} → draw d ≡ k′ → DrewIn d c s out a out1 → Changes c s out (a .context) s out1 k′
-  changes-draw {a = a} e m = changes-is e (record { number = a .number; value = a .count; made = drew m refl })
+  pub performed-draw : {d : DrawCall} {s : List ℕ} {out1 : List Float} {a : DrawReply} → draw d ≡ k′ → DrewIn d c s out a out1
+      → Performed c s out (a .number) (a .count) (a .context) s out1 k′
+  performed-draw e m = performed-is e (drew m refl)
 
 -- where the loop puts back the part that the call changes, it has the context that the call left
 pub placed : {k : Call} {c c1 c2 : Context} {n : ℕ} {s s1 : List ℕ} → Did k c s n c1 s1 → c2 ≡ changedIn k c c1 → c2 ≡ c1

@@ -8,10 +8,10 @@ use native.Mathlib.Omega.{arith}
 use native.Mathlib.Nat.{zero-add, add-zero, add-assoc}
 use borrow.Author.Tests.{lt-ltb, le-ltb, eq-eqb, ne-eqb, ltb-true, ltb-false, leb-true, le-leb, lt-leb}
 use lib.Dec.{ltb, leb}
-use lib.ListN.{length, take, drop, length-take, length-drop, take-append-drop}
+use lib.ListN.{length, take, drop, length-append, length-take, length-drop, take-append-drop}
 use lib.Seq.{getD-drop, drop-drop, drop-append-le, length-take-le}
 use lib.Ieee.{Float}
-use Rattle.draw.specs.Triangles.{Triangle, wordsOf}
+use Rattle.assembly.specs.Triangles.{Triangle, wordsOf}
 use Rattle.draw.specs.Draw.{outputOf}
 use Rattle.draw.proofs.Counts.{drawn-fits}
 use Rattle.context.specs.declared.Context.{Context}
@@ -24,7 +24,7 @@ use Rattle.list_records.specs.Encoding.{callOf, isRecord, recordCall}
 use Rattle.list_records.specs.Perform.{isDraw, Performed, called, drew}
 use Rattle.list_runner.specs.declared.ListReply.{ListReply}
 use Rattle.list_runner.specs.Lists.{recordLength, nextSize, firstCall, onward, decodeTo, wordsTo, decode, wordsRead}
-use Rattle.list_runner.specs.Run.{Changes, InTurn, no-call, one-more, MakesList, outputAfter, outputFrom}
+use Rattle.list_runner.specs.Run.{InTurn, no-call, one-more, MakesList, outputAfter, outputFrom}
 
 -- ---- the record at a place
 
@@ -187,30 +187,31 @@ performed-did (called d f v e) = d
 performed-did {c = c} {c1 = c1} {s = s} {n = n} {k = k} (drew m e) = subst (λ (t : List ℕ). Did k c s n c1 t) (sym e) (m .did .0)
 
 -- after one of several ways a call was made, and the lengths stay
-abbrev pub Stepped : Context → List ℕ → List Float → Call → Context → List ℕ → List Float → Type 0
-Stepped c s out k c1 s1 out1 = Changes c s out c1 s1 out1 k × (length s1 ≡ length s) × (length out1 ≡ length out)
+abbrev pub Stepped : Context → List ℕ → List Float → Call → ℕ → ℕ → Context → List ℕ → List Float → Type 0
+Stepped c s out k n v c1 s1 out1 = Performed c s out n v c1 s1 out1 k × (length s1 ≡ length s) × (length out1 ≡ length out)
 
-pub stayed : {c c1 : Context} {s : List ℕ} {out : List Float} {k : Call} → Changes c s out c1 s out k → Stepped c s out k c1 s out
+pub stayed : {c c1 : Context} {s : List ℕ} {out : List Float} {k : Call} {n v : ℕ} → Performed c s out n v c1 s out k → Stepped c s out k n v c1 s out
 stayed p = (p, refl, refl)
 
-pub joined : {c c1 c2 : Context} {s s1 s2 : List ℕ} {out out1 out2 : List Float} {k : Call}
-    → Stepped c s out k c1 s1 out1 → s2 ≡ s1 → out2 ≡ out1 → c2 ≡ c1 → Stepped c s out k c2 s2 out2
-joined {c = c} {s = s} {out = out} {k = k} p e f g =
-    subst (λ (x : Context × List ℕ × List Float). Stepped c s out k (x .0) (x .1) (x .2)) (λ i. (sym g i, sym e i, sym f i)) p
+pub joined : {c c1 c2 : Context} {s s1 s2 : List ℕ} {out out1 out2 : List Float} {k : Call} {n n2 v v2 : ℕ}
+    → Stepped c s out k n v c1 s1 out1 → s2 ≡ s1 → out2 ≡ out1 → c2 ≡ c1 → n2 ≡ n → v2 ≡ v → Stepped c s out k n2 v2 c2 s2 out2
+joined {c = c} {s = s} {out = out} {k = k} p e f g q w =
+    subst (λ (x : Context × List ℕ × List Float × ℕ × ℕ). Stepped c s out k (x .3) (x .4) (x .0) (x .1) (x .2)) (λ i. (sym g i, sym e i, sym f i, sym q i, sym w i)) p
 
 -- what has been made, and what is left to make, are the whole list
-pub record Progress (c₀ : Context) (s₀ words bytes : List ℕ) (out₀ : List Float) (place left : ℕ) (c : Context) (s : List ℕ) (out : List Float) : Type 0 where
+pub record Progress (c₀ : Context) (s₀ words bytes : List ℕ) (out₀ : List Float) (place left n v : ℕ) (c : Context) (s : List ℕ) (out : List Float) : Type 0 where
   pub before : List Call
-  pub made : InTurn c₀ s₀ out₀ before c s out
+  pub made : InTurn c₀ s₀ out₀ before n v c s out
   pub calls : before ++ decodeTo left bytes (length out₀) (drop place words) ≡ decode bytes (length out₀) words
   pub read : place + wordsTo left bytes (length out₀) (drop place words) ≡ wordsRead bytes (length out₀) words
+  pub count : length before + left ≡ length words
 
-module _ {c₀ : Context} {s₀ words bytes : List ℕ} {out₀ : List Float} {place m : ℕ} {c : Context} {s : List ℕ} {out : List Float}
-    (g : Progress c₀ s₀ words bytes out₀ place (suc m) c s out) where
+module _ {c₀ : Context} {s₀ words bytes : List ℕ} {out₀ : List Float} {place m n0 v0 : ℕ} {c : Context} {s : List ℕ} {out : List Float}
+    (g : Progress c₀ s₀ words bytes out₀ place (suc m) n0 v0 c s out) where
   -- one call more
   progress-made : {k : Call} {n value : ℕ} {c1 : Context} {s1 : List ℕ} {out1 : List Float}
       → firstCall bytes (length out₀) (drop place words) ≡ some k → Performed c s out n value c1 s1 out1 k
-      → Progress c₀ s₀ words bytes out₀ (place + recordLength (drop place words)) m c1 s1 out1
+      → Progress c₀ s₀ words bytes out₀ (place + recordLength (drop place words)) m n value c1 s1 out1
   unfolding decodeTo wordsTo
   progress-made {k = k} f p =
       let room = length out₀ in
@@ -227,54 +228,57 @@ module _ {c₀ : Context} {s₀ words bytes : List ℕ} {out₀ : List Float} {p
         made = one-more (g .made) p;
         calls = append-assoc (g .before) (k ∷ []) (decodeTo m bytes room (drop (place + size) words)) ∙ ap (λ (l : List Call). g .before ++ l) (sym more) ∙ g .calls;
         read = add-assoc place size (wordsTo m bytes room (drop (place + size) words)) ∙ ap (λ (n : ℕ). place + n) (sym taken) ∙ g .read;
-      }
-
-  -- no record follows
-  progress-ended : firstCall bytes (length out₀) (drop place words) ≡ none → Progress c₀ s₀ words bytes out₀ place 0 c s out
-  unfolding decodeTo wordsTo
-  progress-ended f =
-      let room = length out₀ in
-      let size = recordLength (drop place words) in
-      let stop : decodeTo (suc m) bytes room (drop place words) ≡ [] = ap (λ o. onward o (λ j. j ∷ decodeTo m bytes room (drop size (drop place words))) []) f in
-      record {
-        before = g .before;
-        made = g .made;
-        calls = ap (λ (l : List Call). g .before ++ l) (sym stop) ∙ g .calls;
-        read = ap (λ (n : ℕ). place + n) (sym (ap (λ o. onward o (λ j. size + wordsTo m bytes room (drop size (drop place words))) 0) f)) ∙ g .read;
+        count = omega (arith, length-append (g .before) (k ∷ []), g .count);
       }
 
 module _ {c₀ : Context} {s₀ words bytes : List ℕ} {out₀ : List Float} where
   -- the next call is made
-  pub progress-next : {place left size : ℕ} {c c1 : Context} {s s1 : List ℕ} {out out1 : List Float}
-      → Progress c₀ s₀ words bytes out₀ place left c s out → 0 < left → length out ≡ length out₀
+  pub progress-next : {place left size n0 v0 n v : ℕ} {c c1 : Context} {s s1 : List ℕ} {out out1 : List Float}
+      → Progress c₀ s₀ words bytes out₀ place left n0 v0 c s out → 0 < left → length out ≡ length out₀
       → size ≡ nextSize (drop place words) → (size ≡ 0 → ⊥) → {code : ℕ} → code ≡ wordAt words place
-      → Changes c s out c1 s1 out1 (callOf bytes (length out) code (take (place + size - (place + 2)) (drop (place + 2) words)))
-      → Progress c₀ s₀ words bytes out₀ (place + size) (left - 1) c1 s1 out1
-  progress-next {left = zero} g h l e n ec p = absurd (omega arith)
-  progress-next {place = place} {left = suc m} {size = size} {c = c} {c1 = c1} {s = s} {s1 = s1} {out = out} {out1 = out1} g h l e n {code = code} ec p =
+      → Performed c s out n v c1 s1 out1 (callOf bytes (length out) code (take (place + size - (place + 2)) (drop (place + 2) words)))
+      → Progress c₀ s₀ words bytes out₀ (place + size) (left - 1) n v c1 s1 out1
+  progress-next {left = zero} g h l e nz ec p = absurd (omega arith)
+  progress-next {place = place} {left = suc m} {size = size} {n = n} {v = v} {c = c} {c1 = c1} {s = s} {s1 = s1} {out = out} {out1 = out1} g h l e nz {code = code} ec p =
       let w = take (place + size - (place + 2)) (drop (place + 2) words) in
-      let q = subst (λ (r : ℕ). Performed c s out (p .number) (p .value) c1 s1 out1 (callOf bytes r code w)) l (p .made) in
+      let q = subst (λ (r : ℕ). Performed c s out n v c1 s1 out1 (callOf bytes r code w)) l p in
       let less : m ≡ suc m - 1 = omega arith in
-      subst (λ (x : ℕ × ℕ). Progress c₀ s₀ words bytes out₀ (place + x .0) (x .1) c1 s1 out1) (λ i. (sym (next-is words bytes place size (length out₀) e n .0) i, less i))
-      (progress-made g (next-some words bytes place size (length out₀) e n code ec) q)
-
-  -- no call follows
-  pub progress-stop : {place left size : ℕ} {c : Context} {s : List ℕ} {out : List Float} → Progress c₀ s₀ words bytes out₀ place left c s out → 0 < left
-      → size ≡ nextSize (drop place words) → size ≡ 0 → Progress c₀ s₀ words bytes out₀ place 0 c s out
-  progress-stop {left = zero} g h e z = absurd (omega arith)
-  progress-stop {place = place} {left = suc m} {size = size} g h e z = progress-ended g (next-none words bytes place size (length out₀) e z)
+      subst (λ (x : ℕ × ℕ). Progress c₀ s₀ words bytes out₀ (place + x .0) (x .1) n v c1 s1 out1) (λ i. (sym (next-is words bytes place size (length out₀) e nz .0) i, less i))
+      (progress-made g (next-some words bytes place size (length out₀) e nz code ec) q)
 
   -- before the first call
-  pub progress-start : Progress c₀ s₀ words bytes out₀ 0 (length words) c₀ s₀ out₀
-  progress-start = record { before = []; made = no-call; calls = refl; read = zero-add _ }
+  pub progress-start : Progress c₀ s₀ words bytes out₀ 0 (length words) 0 0 c₀ s₀ out₀
+  progress-start = record { before = []; made = no-call; calls = refl; read = zero-add _; count = zero-add _ }
 
-  -- after the last
-  pub progress-done : {place left : ℕ} {c : Context} {s : List ℕ} {out : List Float} → Progress c₀ s₀ words bytes out₀ place left c s out → left ≤ 0
-      → MakesList c₀ words bytes s₀ out₀ (record { read = place; context = c }) s out
+  -- after the last: nothing of what is left has a call
+  pub progress-ended : {place left n v : ℕ} {c : Context} {s : List ℕ} {out : List Float} → (g : Progress c₀ s₀ words bytes out₀ place left n v c s out)
+      → decodeTo left bytes (length out₀) (drop place words) ≡ [] → wordsTo left bytes (length out₀) (drop place words) ≡ 0
+      → MakesList c₀ words bytes s₀ out₀ (record { read = place; made = length words - left; number = n; value = v; context = c }) s out
+  progress-ended {place = place} {n = n} {v = v} {c = c} {s = s} {out = out} g d z =
+      let all : g .before ≡ decode bytes (length out₀) words = sym (append-nil (g .before)) ∙ ap (λ (l : List Call). g .before ++ l) (sym d) ∙ g .calls in
+      record {
+        read = sym (add-zero place) ∙ ap (λ (k : ℕ). place + k) (sym z) ∙ g .read;
+        count = omega (arith, g .count) ∙ ap (λ (l : List Call). length l) all;
+        made = subst (λ (l : List Call). InTurn c₀ s₀ out₀ l n v c s out) all (g .made);
+      }
+
+  pub progress-stop : {place left size n v : ℕ} {c : Context} {s : List ℕ} {out : List Float} → Progress c₀ s₀ words bytes out₀ place left n v c s out → 0 < left
+      → size ≡ nextSize (drop place words) → size ≡ 0
+      → MakesList c₀ words bytes s₀ out₀ (record { read = place; made = length words - left; number = n; value = v; context = c }) s out
+  unfolding decodeTo wordsTo
+  progress-stop {left = zero} g h e z = absurd (omega arith)
+  progress-stop {place = place} {left = suc m} {size = size} g h e z =
+      let room = length out₀ in
+      let f = next-none words bytes place size room e z in
+      let k = recordLength (drop place words) in
+      progress-ended g (ap (λ o. onward o (λ j. j ∷ decodeTo m bytes room (drop k (drop place words))) []) f)
+      (ap (λ o. onward o (λ j. k + wordsTo m bytes room (drop k (drop place words))) 0) f)
+
+  pub progress-done : {place left n v : ℕ} {c : Context} {s : List ℕ} {out : List Float} → Progress c₀ s₀ words bytes out₀ place left n v c s out → left ≤ 0
+      → MakesList c₀ words bytes s₀ out₀ (record { read = place; made = length words - left; number = n; value = v; context = c }) s out
   unfolding decodeTo wordsTo
   progress-done {left = suc m} g h = absurd (omega arith)
-  progress-done {place = place} {left = zero} {c = c} {s = s} {out = out} g h =
-      record { read = sym (add-zero place) ∙ g .read; made = subst (λ (l : List Call). InTurn c₀ s₀ out₀ l c s out) (sym (append-nil (g .before)) ∙ g .calls) (g .made) }
+  progress-done {left = zero} g h = progress-ended g refl refl
 
 -- ---- a list after other calls from fresh
 
@@ -292,8 +296,8 @@ output-append before (k ∷ a) b out =
     output-append (before ++ (k ∷ [])) a b (outputAfter (logs before) k out)
     ∙ ap (λ (l : List Call). outputFrom l b (outputFrom (before ++ (k ∷ [])) a (outputAfter (logs before) k out))) (append-assoc before (k ∷ []) a)
 
-in-turn : {before l : List Call} {c c1 : Context} {s s1 : List ℕ} {out out1 : List Float}
-    → History before c s → InTurn c s out l c1 s1 out1 → History (before ++ l) c1 s1 × (out1 ≡ outputFrom before l out)
+in-turn : {before l : List Call} {n v : ℕ} {c c1 : Context} {s s1 : List ℕ} {out out1 : List Float}
+    → History before c s → InTurn c s out l n v c1 s1 out1 → History (before ++ l) c1 s1 × (out1 ≡ outputFrom before l out)
 unfolding outputFrom
 in-turn {before = before} {c = c} {s = s} h no-call = (subst (λ (l : List Call). History l c s) (sym (append-nil before)) h, refl)
 in-turn {before = before} {out = out} h (one-more {l = l} {k = k} {c2 = c2} {s2 = s2} t p) =

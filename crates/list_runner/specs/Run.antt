@@ -15,27 +15,20 @@ use Rattle.list_runner.specs.declared.ListReply.{ListReply}
 use Rattle.list_runner.specs.declared.RunReply.{RunReply}
 use Rattle.list_runner.specs.Lists.{decode, wordsRead}
 
--- ---- one call of a list
-
--- the call was made, with some number and value
-pub record Changes (c : Context) (s : List ℕ) (out : List Float) (c1 : Context) (s1 : List ℕ) (out1 : List Float) (k : Call) : Type 0 where
-  pub number : ℕ
-  pub value : ℕ
-  pub made : Performed c s out number value c1 s1 out1 k
-
 -- ---- a list, on any context, store and output
 
--- `InTurn c s out l c1 s1 out1`: the calls of l were made, each on what the one before left
-pub data InTurn (c : Context) (s : List ℕ) (out : List Float) : List Call → Context → List ℕ → List Float → Type 0 where
-  no-call : InTurn c s out [] c s out
-  one-more : {l : List Call} {k : Call} {n value : ℕ} {c1 c2 : Context} {s1 s2 : List ℕ} {out1 out2 : List Float}
-      → InTurn c s out l c1 s1 out1 → Performed c1 s1 out1 n value c2 s2 out2 k
-      → InTurn c s out (l ++ (k ∷ [])) c2 s2 out2
+-- `InTurn c s out l n value c1 s1 out1`: the calls of l were made, each on what the one before left; n and value are those of the last, 0 where there is none
+pub data InTurn (c : Context) (s : List ℕ) (out : List Float) : List Call → ℕ → ℕ → Context → List ℕ → List Float → Type 0 where
+  no-call : InTurn c s out [] 0 0 c s out
+  one-more : {l : List Call} {k : Call} {n0 v0 n value : ℕ} {c1 c2 : Context} {s1 s2 : List ℕ} {out1 out2 : List Float}
+      → InTurn c s out l n0 v0 c1 s1 out1 → Performed c1 s1 out1 n value c2 s2 out2 k
+      → InTurn c s out (l ++ (k ∷ [])) n value c2 s2 out2
 
 -- the calls of a list are made, up to the first words that are no record
 pub record MakesList (c : Context) (words bytes s : List ℕ) (out : List Float) (r : ListReply) (s1 : List ℕ) (out1 : List Float) : Type 0 where
   pub read : r .read ≡ wordsRead bytes (length out) words
-  pub made : InTurn c s out (decode bytes (length out) words) (r .context) s1 out1
+  pub count : r .made ≡ length (decode bytes (length out) words)
+  pub made : InTurn c s out (decode bytes (length out) words) (r .number) (r .value) (r .context) s1 out1
 
 -- ---- a list from fresh: proofs/Running.antt shows what follows from the calls before
 

@@ -73,9 +73,13 @@ pub fn make_call(
     perform(c, &mut store[..], code, w, bytes, &mut out[..])
 }
 
-// After a list: how many words were read, and the context. The list was read whole where that is its length.
+// After a list: how many words were read and how many calls were made, number and value of the last call (0 where none was made), and the
+// context. The list was read whole where `read` is its length.
 pub struct ListReply {
     pub read: usize,
+    pub made: usize,
+    pub number: u32,
+    pub value: usize,
     pub context: Context,
 }
 
@@ -110,7 +114,7 @@ fn next_size(words: &[u32], place: usize) -> usize
 }
 
 // Makes the calls of a list, one after the other. The loop puts back the part that a call changes, and the error slot: the rest of the context is
-// not copied. After push, pop and a mode call the whole context comes back, which measured no slower.
+// not copied. After a mode call the whole context comes back: a choice is no part that can be put back by itself.
 pub fn run_on(
     c: Context,
     words: &[u32],
@@ -123,11 +127,17 @@ pub fn run_on(
     let mut c = c;
     let mut place: usize = 0;
     let mut left = words.len();
+    let mut number: u32 = 0;
+    let mut value: usize = 0;
     while left > 0 {
         let size = next_size(words, place);
         if size == 0 {
+            let made = words.len() - left;
             return ListReply {
                 read: place,
+                made,
+                number,
+                value,
                 context: c,
             };
         }
@@ -137,51 +147,79 @@ pub fn run_on(
         let w = &words[start..end];
         if code == 0x14 {
             let r = gles_matrix::push_matrix(c);
-            c = r.context;
+            let part = r.context.stacks;
+            c.stacks = part;
+            c.error = r.context.error;
+            number = r.number;
+            value = 0;
         } else if code == 0x15 {
             let r = gles_matrix::pop_matrix(c);
-            c = r.context;
+            let part = r.context.stacks;
+            c.stacks = part;
+            c.error = r.context.error;
+            number = r.number;
+            value = 0;
         } else if code == 0x10 {
             let r = gles_matrix::set_matrix_mode(c, list_words::word_at(w, 0));
             c = r.context;
+            number = r.number;
+            value = 0;
         } else if code < 0x20 {
             let r = list_records::make_update(c, code, list_words::matrix_floats(w));
             let m = r.context.currents();
             let part = c.stacks.with_currents(m);
             c.stacks = part;
             c.error = r.context.error;
+            number = r.number;
+            value = 0;
         } else if code < 0x30 {
             let r = list_buffers::make_buffer(c, &mut store[..], code, w, bytes);
             let part = r.context.buffers;
             c.buffers = part;
             c.error = r.context.error;
+            number = r.number;
+            value = r.value;
         } else if code < 0x36 {
             let r = list_records::array_record(c, code, w);
             let part = r.context.arrays;
             c.arrays = part;
             c.error = r.context.error;
+            number = r.number;
+            value = 0;
         } else if code < 0x40 {
             let r = list_records::attribute_record(c, code, w);
             let part = r.context.attributes;
             c.attributes = part;
             c.error = r.context.error;
+            number = r.number;
+            value = 0;
         } else if code < 0x50 {
             let r = list_records::pipeline_record(c, code, w);
             let part = r.context.pipeline;
             c.pipeline = part;
             c.error = r.context.error;
+            number = r.number;
+            value = 0;
         } else if code == 0x50 {
             let r = list_records::make_take_error(c);
             c.error = r.context.error;
+            number = r.number;
+            value = r.value;
         } else {
             let r = list_draws::make_draw(c, &store[..], code, w, bytes, &mut out[..]);
             c.error = r.context.error;
+            number = r.number;
+            value = r.count;
         }
         place = end;
         left -= 1;
     }
+    let made = words.len() - left;
     ListReply {
         read: place,
+        made,
+        number,
+        value,
         context: c,
     }
 }

@@ -4,6 +4,7 @@ ghost use Rattle.number.specs.Decides.{Decides};
 ghost use Rattle.stack.specs.Stack.{Sound, MatrixCall, stackAnswer, freshStack};
 
 // 16 f32, column by column.
+#[repr(C)]
 pub struct Matrix {
     pub entries: [f32; 16],
 }
@@ -38,6 +39,7 @@ pub fn replace(to: &mut [f32; 16], from: Matrix)
 pub const SAVED_LIMIT: usize = 15;
 
 // A current matrix, and `depth` saved ones: the first of `saved`. With the number between the two, the compiler can copy the one without the other.
+#[repr(C)]
 pub struct MatrixStack {
     pub current: Matrix,
     pub depth: usize,

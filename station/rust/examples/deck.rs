@@ -5,6 +5,9 @@
 //! A trace has more than the calls of a context: stacks lent from outside and state printed are
 //! left out, with their answers; it stops at an unsound context and at a store of another length.
 
+#[macro_use]
+#[path = "trace/calls.rs"]
+mod calls;
 pub mod trace;
 
 use beonasul::{Context, Error, Guest, Result, Store};
@@ -68,79 +71,16 @@ impl Viewer {
 
     /// A call that answers a number alone.
     fn call(&mut self, r: &Record) -> Result<()> {
-        match r.code {
-            code::MATRIX_MODE..=code::ORTHO => self.matrix(r),
-            code::BIND..=code::BUFFER_SUB_DATA => self.buffer(r),
-            code::VERTEX_POINTER..=code::MULTI_TEXCOORD => self.array(r),
-            _ => self.setting(r),
-        }
-    }
-
-    fn matrix(&mut self, r: &Record) -> Result<()> {
-        let context = &mut self.context;
-        match r.code {
-            code::MATRIX_MODE => context.set_matrix_mode(r.words[0]),
-            code::LOAD_IDENTITY => context.load_identity(),
-            code::LOAD => context.load_matrix(r.floats(0)),
-            code::MULT => context.mult_matrix(r.floats(0)),
-            code::PUSH => context.push_matrix(),
-            code::POP => context.pop_matrix(),
-            code::TRANSLATE => context.translate(r.float(0), r.float(1), r.float(2)),
-            code::SCALE => context.scale(r.float(0), r.float(1), r.float(2)),
-            code::ROTATE => context.rotate_by(r.float(0), r.float(1), r.floats(2)),
-            code::ROTATE_ZERO => context.rotate(r.float(0), r.float(1), r.float(2), r.float(3)),
-            code => {
-                let [left, right, bottom, top, near, far] = r.floats(0);
-                if code == code::FRUSTUM {
-                    return context.frustum(left, right, bottom, top, near, far);
-                }
-                context.ortho(left, right, bottom, top, near, far)
-            }
-        }
-    }
-
-    fn buffer(&mut self, r: &Record) -> Result<()> {
         let (context, store, w) = (&mut self.context, &mut self.store, &r.words);
         match r.code {
-            code::BIND => context.bind_buffer(w[0], w[1]),
-            code::DELETE => context.delete_buffers(&w[1..]),
+            code::ROTATE => context.rotate_by(r.float(0), r.float(1), r.floats(2)),
             code::BUFFER_DATA => {
                 let data = r.bytes(4);
                 let data = (w[3] == 1).then_some(&data[..]);
                 context.buffer_data(store, w[0], w[1] as usize, data, w[2])
             }
-            _ => context.buffer_sub_data(store, w[0], w[1], &r.bytes(2)),
-        }
-    }
-
-    fn array(&mut self, r: &Record) -> Result<()> {
-        let (context, w) = (&mut self.context, &r.words);
-        match r.code {
-            code::VERTEX_POINTER => context.set_vertex_pointer(w[0], w[1], w[2], w[3]),
-            code::COLOR_POINTER => context.set_color_pointer(w[0], w[1], w[2], w[3]),
-            code::NORMAL_POINTER => context.set_normal_pointer(w[0], w[1], w[2]),
-            code::TEXCOORD_POINTER => context.set_texcoord_pointer(w[0], w[1], w[2], w[3]),
-            code::CLIENT_STATE => context.set_client_state(w[0], w[1] == 1),
-            code::CLIENT_UNIT => context.set_client_active_texture(w[0]),
-            code::COLOR => context.set_color(r.floats(0)),
-            _ => context.set_multi_texcoord(w[0], r.float(1), r.float(2)),
-        }
-    }
-
-    fn setting(&mut self, r: &Record) -> Result<()> {
-        let (context, w) = (&mut self.context, &r.words);
-        match r.code {
-            code::ACTIVE_UNIT => context.set_active_texture(w[0]),
-            code::CAPABILITY => context.set_capability(w[0], w[1] == 1),
-            code::TEX_ENV => context.tex_env(w[0], w[1]),
-            code::TEX_ENV_COLOR => context.set_tex_env_color(r.floats(0)),
-            code::DEPTH_FUNC => context.set_depth_func(w[0]),
-            code::ALPHA_FUNC => context.set_alpha_func(w[0], r.float(1)),
-            code::BLEND_FUNC => context.set_blend_func(w[0], w[1]),
-            code::CULL_FACE => context.set_cull_face(w[0]),
-            code::FRONT_FACE => context.set_front_face(w[0]),
-            code::FOG => context.set_fog(w[0], r.float(1)),
-            _ => context.set_depth_range(r.float(0), r.float(1)),
+            code::BUFFER_SUB_DATA => context.buffer_sub_data(store, w[0], w[1], &r.bytes(2)),
+            _ => make_call!(*context, r),
         }
     }
 

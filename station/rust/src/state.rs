@@ -5,8 +5,6 @@
 #[repr(C)]
 #[derive(Clone, Copy, Debug, PartialEq)]
 pub struct State {
-    /// The matrix mode in force, 0x1700 to 0x1702.
-    pub mode: u32,
     /// The matrix stacks.
     pub stacks: Stacks,
     /// The buffer objects.
@@ -19,6 +17,8 @@ pub struct State {
     pub settings: Settings,
     /// The error slot: 0, or the first code since `take_error`.
     pub error: u32,
+    /// The matrix mode in force, 0x1700 to 0x1702.
+    pub mode: u32,
 }
 
 /// The stacks of the three matrix modes.

@@ -7,6 +7,7 @@ use crate::faults::{Fault, ALL};
 use crate::generate::{self, Kind, List};
 use crate::model;
 use crate::oracle;
+use crate::replay::{self, Trial};
 use crate::sweep;
 use crate::trace::{self, op, Record};
 use std::collections::BTreeMap;
@@ -28,7 +29,7 @@ pub struct Counts {
     calls: u64,
     triangles: u64,
     damaged: u64,
-    unsound: u64,
+    pub unsound: u64,
     pub differences: u64,
     numbers: BTreeMap<u32, u64>,
     start: Instant,
@@ -245,6 +246,19 @@ pub fn report(label: &str, names: [&str; 2], d: &Difference, list: &[Record]) {
     if list.len() > SHOWN {
         println!("    ..");
     }
+}
+
+/// Every list through the replay program at `path`.
+pub fn compare(seed: u64, count: u64, path: &str) -> bool {
+    let trial = Trial {
+        program: vec![path.into()],
+        judges: vec![
+            ("model", Box::new(|bytes| model::answers(bytes, None))),
+            ("oracle", Box::new(oracle::answers)),
+        ],
+        fits: |_| true,
+    };
+    replay::compare(&trial, items(seed, count), count + sweep::lists().len() as u64)
 }
 
 // ---- oracle against model ----

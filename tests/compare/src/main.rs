@@ -15,6 +15,7 @@ mod model;
 mod oracle;
 mod random;
 mod replay;
+mod station;
 mod sweep;
 #[cfg(test)]
 mod tests;
@@ -30,6 +31,8 @@ compare oracle < TRACE
 compare model [--fault FAULT] < TRACE
 compare show < TRACE
 compare compare SEED COUNT --replay PATH
+compare station SEED COUNT [--holes PERIOD LENGTH] --program PATH [ARGUMENT..]
+compare station-shows SEED COUNT [--holes PERIOD LENGTH] --program PATH [ARGUMENT..]
 compare self SEED COUNT
 compare faults [SEED COUNT]
 compare coverage SEED COUNT
@@ -45,6 +48,30 @@ fn input() -> Vec<u8> {
 
 fn print(text: &[u8]) -> bool {
     std::io::stdout().lock().write_all(text).is_ok()
+}
+
+/// A command on a program behind the station's boundary.
+fn station_command(
+    arguments: &[&str],
+    command: fn(u64, u64, &[&str], Option<oracle::Holes>) -> bool,
+) -> Option<bool> {
+    let (seed, count, rest) = match arguments {
+        [seed, count, rest @ ..] => (seed.parse().ok()?, count.parse().ok()?, rest),
+        _ => return None,
+    };
+    let (holes, rest) = match rest {
+        ["--holes", period, length, rest @ ..] => {
+            let (period, length) = (period.parse().ok()?, length.parse().ok()?);
+            (Some(oracle::Holes { period, length }), rest)
+        }
+        _ => (None, rest),
+    };
+    match rest {
+        ["--program", program @ ..] if !program.is_empty() => {
+            Some(command(seed, count, program, holes))
+        }
+        _ => None,
+    }
 }
 
 fn run(arguments: &[&str]) -> Option<bool> {
@@ -63,8 +90,10 @@ fn run(arguments: &[&str]) -> Option<bool> {
         }
         ["show"] => print(&commands::shown(&input())),
         ["compare", seed, count, "--replay", path] => {
-            replay::compare(number(seed)?, number(count)?, path)
+            commands::compare(number(seed)?, number(count)?, path)
         }
+        ["station", ref rest @ ..] => station_command(rest, station::compare)?,
+        ["station-shows", ref rest @ ..] => station_command(rest, station::shows)?,
         ["self"] => commands::compare_self(1, 1000),
         ["self", seed, count] => commands::compare_self(number(seed)?, number(count)?),
         ["faults"] => commands::faults(1, 2000),

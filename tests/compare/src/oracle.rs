@@ -35,9 +35,14 @@ fn driver_of(list: &[Record]) -> Run {
 
 /// All answers to a trace. After a line that ends in ` ?` the list goes on unanswered.
 pub fn answers(bytes: &[u8]) -> Text {
+    answers_with(bytes, None)
+}
+
+/// The same, on a guest memory with holes.
+pub fn answers_with(bytes: &[u8], holes: Option<Holes>) -> Text {
     let (records, stop) = trace::read(bytes);
     let mut out = Text::new();
-    let mut lasting = Lasting::new();
+    let mut lasting = Lasting::new(holes);
     for list in records.chunk_by(|_, next| next.op != op::FRESH) {
         driver_of(list)(list, &mut lasting, &mut out);
     }
@@ -59,6 +64,22 @@ pub struct Guest {
     pub base: u32,
     pub bytes: Vec<u8>,
     pub succeeded: bool,
+    holes: Option<Holes>,
+}
+
+/// What cannot be read of a guest memory: at each multiple of `period`, the next `length` bytes.
+#[derive(Clone, Copy)]
+pub struct Holes {
+    pub period: u32,
+    pub length: u32,
+}
+
+impl Holes {
+    /// Do the bytes from this address on, `len` of them, lie in no hole?
+    fn spare(&self, addr: u32, len: usize) -> bool {
+        let place = (addr % self.period) as usize;
+        len == 0 || place >= self.length as usize && place + len <= self.period as usize
+    }
 }
 
 /// A stack lent from outside; none if it says that it holds more than 15.
@@ -69,10 +90,10 @@ pub struct Lent {
 }
 
 impl Lasting {
-    fn new() -> Self {
+    fn new(holes: Option<Holes>) -> Self {
         Lasting {
             store_len: STORE,
-            guest: Guest { base: 0, bytes: Vec::new(), succeeded: false },
+            guest: Guest { base: 0, bytes: Vec::new(), succeeded: false, holes },
             lent: std::array::from_fn(|_| fresh_lent()),
         }
     }
@@ -85,7 +106,8 @@ impl Guest {
 
     pub fn read(&mut self, addr: u32, len: usize, out: &mut Vec<u8>) -> bool {
         let from = addr.wrapping_sub(self.base) as usize;
-        self.succeeded = addr >= self.base && from + len <= self.bytes.len();
+        let inside = addr >= self.base && from + len <= self.bytes.len();
+        self.succeeded = inside && self.holes.is_none_or(|holes| holes.spare(addr, len));
         if self.succeeded {
             out.clear();
             out.extend_from_slice(&self.bytes[from..from + len]);

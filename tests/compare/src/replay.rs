@@ -1,13 +1,10 @@
-//! Runs the replay program on the lists and compares its answers with the model's and the oracle's.
-//! A thread makes the lists and the answers to them while the program runs.
+//! Runs a program on lists and compares its answers with those of the judges: the model's and the
+//! oracle's. A thread makes the lists and the answers to them while the program runs.
 
 use crate::answer::Text;
 use crate::commands::{self, Counts, Item};
 use crate::differ::{self, Difference};
 use crate::generate::Kind;
-use crate::model;
-use crate::oracle;
-use crate::sweep;
 use crate::trace::{self, op, Record};
 use std::collections::VecDeque;
 use std::io::{Read, Write};
@@ -31,6 +28,19 @@ const MOST_TEXT: usize = 1 << 27;
 const FAULT: &str = "the program ";
 const HANGS: &str = "the program does not end";
 
+/// A name for reports, and the answers that a trace must have.
+pub type Judge = (&'static str, Box<dyn Fn(&[u8]) -> Text + Send + Sync>);
+
+/// What runs the lists, and what is asked of its answers.
+pub struct Trial {
+    /// Path and arguments.
+    pub program: Vec<String>,
+    /// The first also answers a damaged trace.
+    pub judges: Vec<Judge>,
+    /// May a list be given to the program? Asked of the smaller lists that a report looks for.
+    pub fits: fn(&[Record]) -> bool,
+}
+
 /// A program at work on a trace. It is killed when this is dropped.
 struct Replay {
     child: Child,
@@ -40,11 +50,12 @@ struct Replay {
 
 impl Replay {
     /// Starts the program; a thread feeds it, another reads it.
-    fn start(path: &str, bytes: Vec<u8>) -> Self {
-        let mut command = Command::new(path);
+    fn start(program: &[String], bytes: Vec<u8>) -> Self {
+        let mut command = Command::new(&program[0]);
+        command.args(&program[1..]);
         let started = command.stdin(Stdio::piped()).stdout(Stdio::piped()).spawn();
         let mut child = started.unwrap_or_else(|error| {
-            eprintln!("{path}: {error}");
+            eprintln!("{}: {error}", program[0]);
             std::process::exit(2)
         });
         let mut stdin = child.stdin.take().unwrap();
@@ -124,22 +135,20 @@ fn collect(mut stdout: impl Read, kept: &Mutex<Text>) {
     }
 }
 
-/// Lists that run as one trace, and the answers to it. A damaged list runs alone.
+/// Lists that run as one trace, and each judge's answers to it. A damaged list runs alone.
 struct Batch {
     items: Vec<Item>,
     bytes: Vec<u8>,
-    model: Text,
-    oracle: Text,
+    answers: Vec<(&'static str, Text)>,
 }
 
 impl Batch {
-    fn new(items: Vec<Item>) -> Self {
+    fn new(items: Vec<Item>, judges: &[Judge]) -> Self {
         let bytes: Vec<u8> = items.iter().flat_map(|item| item.list.bytes()).collect();
-        let model = model::answers(&bytes, None);
-        let mut batch = Batch { items, bytes, model, oracle: Text::new() };
-        if !batch.damaged() {
-            batch.oracle = oracle::answers(&batch.bytes);
-        }
+        let mut batch = Batch { items, bytes, answers: Vec::new() };
+        let asked = if batch.damaged() { &judges[..1] } else { judges };
+        let answers = asked.iter().map(|(name, answers)| (*name, answers(&batch.bytes)));
+        batch.answers = answers.collect();
         batch
     }
 
@@ -148,20 +157,15 @@ impl Batch {
     }
 
     /// The lists whose answers differ, each with its first difference.
-    fn differences(&self, text: &[u8]) -> Vec<(usize, &'static str, Difference)> {
+    fn differences(&self, text: &[u8]) -> Vec<(usize, Difference)> {
         let owners = owners(&self.items);
         let place = |i: usize| owners.get(i).copied().unwrap_or(self.items.len() - 1);
         let mut found = Vec::new();
-        for (i, d) in differ::all(&self.model, text) {
-            found.push((place(i), "model", d));
+        for (_, answers) in &self.answers {
+            found.extend(differ::all(answers, text).into_iter().map(|(i, d)| (place(i), d)));
         }
-        if !self.damaged() {
-            for (i, d) in differ::all(&self.oracle, text) {
-                found.push((place(i), "oracle", d));
-            }
-        }
-        found.sort_by_key(|(place, ..)| *place);
-        found.dedup_by_key(|(place, ..)| *place);
+        found.sort_by_key(|(place, _)| *place);
+        found.dedup_by_key(|(place, _)| *place);
         found
     }
 }
@@ -176,17 +180,21 @@ fn owners(items: &[Item]) -> Vec<usize> {
 }
 
 /// Makes the batches, as long as someone takes them.
-fn make(seed: u64, count: u64, send: &SyncSender<Batch>) -> Option<()> {
-    let mut items = commands::items(seed, count).peekable();
+fn make(
+    items: impl Iterator<Item = Item>,
+    judges: &[Judge],
+    send: SyncSender<Batch>,
+) -> Option<()> {
+    let mut items = items.peekable();
     while items.peek().is_some() {
         let some = items.by_ref().take(LISTS);
         let (damaged, good): (Vec<Item>, Vec<Item>) =
             some.partition(|item| item.list.kind == Kind::Damaged);
         if !good.is_empty() {
-            send.send(Batch::new(good)).ok()?;
+            send.send(Batch::new(good, judges)).ok()?;
         }
         for item in damaged {
-            send.send(Batch::new(vec![item])).ok()?;
+            send.send(Batch::new(vec![item], judges)).ok()?;
         }
     }
     Some(())
@@ -194,19 +202,18 @@ fn make(seed: u64, count: u64, send: &SyncSender<Batch>) -> Option<()> {
 
 /// The program to look into, and how long it may go without an answer.
 struct Suspect<'a> {
-    path: &'a str,
+    trial: &'a Trial,
     limit: Duration,
 }
 
 impl Suspect<'_> {
-    /// How the program parts from the model, or else from the oracle, on this trace.
+    /// How the program parts from the first judge that it parts from, on this trace.
     fn on(&self, bytes: &[u8], damaged: bool) -> Option<(&'static str, Difference)> {
-        let text = Replay::start(self.path, bytes.to_vec()).finish(self.limit, damaged);
-        let by_model = differ::texts(&model::answers(bytes, None), &text);
-        let (name, (_, mut d)) = match by_model {
-            Some(found) => ("model", found),
-            None => ("oracle", differ::texts(&oracle::answers(bytes), &text)?),
-        };
+        let text = Replay::start(&self.trial.program, bytes.to_vec()).finish(self.limit, damaged);
+        let mut parted = self.trial.judges.iter().filter_map(|(name, answers)| {
+            differ::texts(&answers(bytes), &text).map(|(_, d)| (*name, d))
+        });
+        let (name, mut d) = parted.next()?;
         let last = String::from_utf8_lossy(text.rsplit(|&b| b == b'\n').nth(1).unwrap_or(&[]));
         if last.starts_with(FAULT) && d.right != last {
             d.right += &format!(" ({last})");
@@ -217,14 +224,17 @@ impl Suspect<'_> {
     /// Shows the smallest list that still differs; `rest` is what stands behind it.
     fn show(&self, label: &str, records: &[Record], rest: &[u8]) {
         let damaged = !rest.is_empty();
-        let differs = |r: &[Record]| self.on(&[&trace::write(r)[..], rest].concat(), damaged);
-        let small = differ::smallest(records, &|r| differs(r).is_some());
+        let differs = |r: &[Record]| {
+            (self.trial.fits)(r)
+                && self.on(&[&trace::write(r)[..], rest].concat(), damaged).is_some()
+        };
+        let small = differ::smallest(records, &differs);
         let bytes = [&trace::write(&small)[..], rest].concat();
         let Some((name, d)) = self.on(&bytes, damaged) else {
             println!("difference: {label}: it comes and goes with the same list");
             return;
         };
-        commands::report(label, [name, "replay"], &d, &small);
+        commands::report(label, [name, "program"], &d, &small);
         if damaged {
             let shown: Vec<String> = rest.iter().take(64).map(|b| format!("{b:02x}")).collect();
             println!("    and {} bytes that are no record: {}", rest.len(), shown.join(" "));
@@ -238,10 +248,10 @@ impl Suspect<'_> {
 
 /// Shows a difference of a batch. The program may keep answers back, so that the list where they
 /// part need not be the one that is to blame.
-fn show(path: &str, batch: &Batch, place: usize, hangs: bool) {
+fn show(trial: &Trial, batch: &Batch, place: usize, hangs: bool) {
     let items = &batch.items;
     let limit = if hangs { SHORT_LIMIT } else { LIMIT };
-    let suspect = Suspect { path, limit };
+    let suspect = Suspect { trial, limit };
     if batch.damaged() {
         let (records, _) = trace::read(&batch.bytes);
         let (sound, rest) = batch.bytes.split_at(trace::write(&records).len());
@@ -258,21 +268,42 @@ fn show(path: &str, batch: &Batch, place: usize, hangs: bool) {
     suspect.show(&label, &lists.collect::<Vec<_>>(), &[]);
 }
 
-/// Every list through the program at `path`.
-pub fn compare(seed: u64, count: u64, path: &str) -> bool {
+/// How many lists differ if they run as one trace, and the first of them.
+pub fn parted(trial: &Trial, items: Vec<Item>) -> (usize, Option<(String, Difference)>) {
+    let batch = Batch::new(items, &trial.judges);
+    let replay = Replay::start(&trial.program, batch.bytes.clone());
+    let found = batch.differences(&replay.finish(LIMIT, false));
+    let count = found.len();
+    let first = found.into_iter().next();
+    (count, first.map(|(place, d)| (batch.items[place].label.clone(), d)))
+}
+
+/// Every list through the program; `all` is how many there are.
+pub fn compare(trial: &Trial, items: impl Iterator<Item = Item> + Send, all: u64) -> bool {
     let mut counts = Counts::new();
-    let text = Replay::start(path, Vec::new()).finish(LIMIT, false);
+    let text = Replay::start(&trial.program, Vec::new()).finish(LIMIT, false);
     if !text.is_empty() {
         println!(
-            "difference: empty trace\n  replay: {}",
+            "difference: empty trace\n  program: {}",
             String::from_utf8_lossy(&text).trim_end()
         );
         counts.differences += 1;
     }
+    std::thread::scope(|scope| {
+        let (send, batches) = std::sync::mpsc::sync_channel(8);
+        scope.spawn(move || make(items, &trial.judges, send));
+        run(trial, batches, &mut counts, all);
+    });
+    counts.print();
+    if counts.lists != all {
+        println!("only {} of {all} lists were run", counts.lists);
+    }
+    counts.differences == 0 && counts.lists == all
+}
+
+/// Runs the batches as they come.
+fn run(trial: &Trial, batches: Receiver<Batch>, counts: &mut Counts, all: u64) {
     let mut shown = false;
-    let (send, batches) = std::sync::mpsc::sync_channel(8);
-    std::thread::spawn(move || make(seed, count, &send));
-    let all = count + sweep::lists().len() as u64;
     let mut unmade = 0;
     let mut running: VecDeque<(Batch, Replay)> = VecDeque::new();
     loop {
@@ -280,7 +311,7 @@ pub fn compare(seed: u64, count: u64, path: &str) -> bool {
             let Ok(batch) = batches.recv() else {
                 break;
             };
-            let replay = Replay::start(path, batch.bytes.clone());
+            let replay = Replay::start(&trial.program, batch.bytes.clone());
             running.push_back((batch, replay));
         }
         let Some((batch, replay)) = running.pop_front() else {
@@ -290,10 +321,10 @@ pub fn compare(seed: u64, count: u64, path: &str) -> bool {
         let hangs = text.ends_with(format!("{HANGS}\n").as_bytes());
         unmade += text.split(|&b| b == b'\n').filter(|line| line == b"UNSOUND 1").count();
         batch.items.iter().for_each(|item| counts.add(&item.list));
-        counts.read(&batch.model);
+        counts.read(&batch.answers[0].1);
         let found = batch.differences(&text);
-        if let (false, Some(&(place, ..))) = (shown, found.first()) {
-            show(path, &batch, place, hangs);
+        if let (false, Some(&(place, _))) = (shown, found.first()) {
+            show(trial, &batch, place, hangs);
             shown = true;
         }
         counts.differences += found.len() as u64;
@@ -303,10 +334,7 @@ pub fn compare(seed: u64, count: u64, path: &str) -> bool {
         }
         counts.tell(all);
     }
-    println!("unsound contexts that the program does not make: {unmade}");
-    counts.print();
-    if counts.lists != all {
-        println!("only {} of {all} lists were run", counts.lists);
+    if counts.unsound > 0 {
+        println!("unsound contexts that the program does not make: {unmade}");
     }
-    counts.differences == 0 && counts.lists == all
 }

@@ -6,6 +6,7 @@ use crate::generate::{self, Kind};
 use crate::model::{self, Model};
 use crate::oracle;
 use crate::random::Random;
+use crate::station::station_list;
 use crate::trace::{self, op, Record};
 
 const ROOM: u32 = 51 * 16;
@@ -270,4 +271,40 @@ fn what_may_differ() {
     assert!(same("ROTATE ?\n", "ROTATE 0\nPUSH 0\n"));
     assert!(!same("PUSH 0\nPUSH 0\n", "PUSH 0\n"));
     assert!(!same("FRESH 0\nFRESH 0\n", "FRESH 0\n"));
+}
+
+/// The oracle follows what is left of a list for the station to its end, and nothing more is left out.
+#[test]
+fn lists_for_the_station() {
+    let mut shorter = 0;
+    for number in (0..200).filter(|n| n % 20 < 18) {
+        let list = generate::list(1, number).records;
+        let kept = station_list(&list);
+        shorter += (kept.len() < list.len()) as u32;
+        assert!(kept.iter().any(|r| trace::is_draw(r.op)), "list {number} has no draw");
+        assert_eq!(station_list(&kept), kept);
+        let text = String::from_utf8(oracle::answers(&trace::write(&kept))).unwrap();
+        assert!(!text.lines().any(|line| line.ends_with('?')), "list {number}");
+    }
+    assert!(shorter > 0);
+}
+
+/// A read that touches a hole fails; one between two holes does not.
+#[test]
+fn holes_in_the_guest_memory() {
+    let holes = Some(oracle::Holes { period: 16, length: 2 });
+    let guest = Record::with_bytes(op::GUEST, &[16], &[1; 32]);
+    let answers = |pointer: u32, size: u32| {
+        let mut records = vec![guest.clone(), call(op::CLIENT_STATE, &[0x8074, 1])];
+        records.push(call(op::VERTEX_POINTER, &[size, 0x1401, 0, pointer]));
+        records.push(draw(4, &[0]));
+        let text = oracle::answers_with(&trace::write(&records), holes);
+        String::from_utf8(text).unwrap().lines().last().unwrap().to_string()
+    };
+    for (pointer, size) in [(18, 14), (31, 1), (34, 4), (17, 0)] {
+        assert_eq!(answers(pointer, size), "DRAW_LIST 0 0");
+    }
+    for (pointer, size) in [(17, 4), (18, 15), (16, 1), (33, 1), (20, 24)] {
+        assert_eq!(answers(pointer, size), "DRAW_LIST 9 0");
+    }
 }

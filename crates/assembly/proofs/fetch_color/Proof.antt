@@ -7,7 +7,7 @@ use Rattle.fetch.proofs.Parts.{part-length}
 use Rattle.fetch.specs.FetchCode.{partSource}
 use Rattle.vertex.specs.SceneCode.{sceneIn}
 use Rattle.vertex.specs.Vertex.{elementOf}
-use Rattle.assembly.specs.Elements.{locationOf, Locates}
+use Rattle.assembly.specs.ElementsCode.{locationOf, Locates}
 use Rattle.assembly.specs.declared.Location.{Location}
 use Rattle.assembly.proofs.Fetching.{located, components-are}
 use borrow.Author.Needs.{needs}

@@ -1,6 +1,6 @@
 -- `assembly::find_element` meets its contract: each return is the case that its tests say.
 use borrow.Author.Tests.{lt-ltb, le-ltb}
-use Rattle.assembly.specs.Elements.{locationOf}
+use Rattle.assembly.specs.ElementsCode.{locationOf}
 use Rattle.assembly.proofs.Addresses.{below, below-sum}
 use borrow.Author.Needs.{needs}
 use Rattle.assembly.proofs.find_element.Statement.{statement}

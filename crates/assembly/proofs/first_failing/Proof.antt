@@ -12,7 +12,7 @@ use Rattle.vertex.specs.Scene.{Scene}
 use Rattle.vertex.specs.Questions.{fails}
 use Rattle.vertex.specs.SceneCode.{sceneIn, indexList}
 use Rattle.vertex.proofs.Search.{first-pass, first-found, first-none}
-use Rattle.assembly.specs.Elements.{PreparesFor}
+use Rattle.assembly.specs.ElementsCode.{PreparesFor}
 use Rattle.assembly.proofs.Fetching.{position-asked}
 use borrow.Author.Needs.{needs}
 use Rattle.assembly.proofs.first_failing.Statement.{statement}

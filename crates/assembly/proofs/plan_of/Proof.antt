@@ -3,7 +3,7 @@ use mathlib.Core.Path.{subst}
 use denote.Ref.{now}
 use Rattle.fetch.specs.declared.ArrayPointer.{ArrayPointer}
 use Rattle.vertex.specs.SceneCode.{sceneIn}
-use Rattle.assembly.specs.Elements.{PreparesFor}
+use Rattle.assembly.specs.ElementsCode.{PreparesFor}
 use borrow.Author.Needs.{needs}
 use Rattle.assembly.proofs.plan_of.Statement.{statement}
 use Rattle.assembly.proofs.plan_of.Tie as tie

@@ -1,17 +1,17 @@
 -- `assembly::prepare` meets its contract: each way out is a case of the law on prepared arrays.
-use Prim.Native.Nat.{ℕ, _*_}
-use mathlib.Core.Path.{refl, sym, subst, _∙_}
+use Prim.Native.Nat.{ℕ, _*_, _≤_}
+use mathlib.Core.Path.{_≡_, refl, sym, ap, subst, _∙_}
 use native.Mathlib.Omega.{arith}
 use denote.Ref.{now}
 use borrow.Author.Tests.{not-true, not-false}
 use Rattle.buffers.specs.Objects.{contentsOf}
-use Rattle.fetch.specs.Fetch.{partOf}
+use Rattle.fetch.specs.Fetch.{lastAddress, strideOf, partOf}
 use Rattle.fetch.specs.FetchCode.{partSource}
-use Rattle.assembly.specs.Elements.{Prepares}
+use Rattle.fetch.proofs.Extents.{Covers, covers}
+use Rattle.assembly.specs.ElementsCode.{Prepares}
 use Rattle.assembly.specs.declared.Failure.{Failure}
 use Rattle.assembly.proofs.Addresses.{below}
 use Rattle.assembly.proofs.Widths.{width-small}
-use Rattle.assembly.proofs.Extents.{Covers, covers}
 use Rattle.assembly.proofs.Preparing.{of-no-type, of-long, of-absent, of-short, of-whole}
 use borrow.Author.Needs.{needs}
 use Rattle.assembly.proofs.prepare.Statement.{statement}
@@ -24,9 +24,15 @@ covered : (c : tie.After-find-extent) →
     (partSource (args .array .buffer) (now (args .store)) (now (args .guest))) (c .find-extent .result)
 covered c =
     let args = c .before .before .before .args in
-    subst (Covers (partOf (contentsOf (args .b .slots) (now (args .store))) (args .base) (now (args .guest)) (args .array .buffer))
-    (partSource (args .array .buffer) (now (args .store)) (now (args .guest)))) (sym (c .find-extent .ensures))
-    (covers (args .b .slots) (now (args .store)) (now (args .guest)) (args .base) (args .array .buffer))
+    covers (args .b .slots) (now (args .store)) (now (args .guest)) (args .base) (args .array .buffer) _ (c .find-extent .ensures)
+
+-- the distance between the elements, where their length is within 32 bits
+stride : (c : tie.After-step-of) →
+    let array = c .before .before .before .before .before .before .args .array in
+    c .before .before .component-bytes .result * array .size ≤ lastAddress → c .step-of .result ≡ strideOf array
+stride c h =
+    let array = c .before .before .before .before .before .before .args .array in
+    c .step-of .ensures array refl (ap (λ (k : ℕ). k * array .size) (c .before .before .component-bytes .ensures)) h
 
 mul-len : tie.Need-mul-len
 mul-len c = record { fits = below 32 (omega (arith, c .before .component-bytes .ensures, width-small (c .before .before .before .before .before .args .array .ty))) (search needs) }
@@ -55,7 +61,7 @@ returns-3 c =
     let width = c5 .before .before .component-bytes .result in
     subst (Prepares (contentsOf (args .b .slots) (now (args .store))) (args .base) (now (args .store)) (now (args .guest)) (args .array))
     (sym (c .without-elements3 .ensures
-    ∙ (λ i. record { array = args .array; failure = Failure.NoBuffer; len = 0; stride = c5 .step-of .ensures i; low = 1; last = 0; origin = 0 })))
+    ∙ (λ i. record { array = args .array; failure = Failure.NoBuffer; len = 0; stride = stride c5 (c3 .if2 .left) i; low = 1; last = 0; origin = 0 })))
     (of-absent (contentsOf (args .b .slots) (now (args .store))) (args .base) (now (args .store)) (now (args .guest)) (args .array) width
     (c5 .before .before .component-bytes .ensures) (c3 .before .if1 .left) (width * args .array .size) refl (c3 .if2 .left) _ (covered c8)
     (not-true (c8 .find-extent .result .known) (c .before .if3 .taken)))
@@ -67,7 +73,7 @@ returns-4 c =
     let width = c7 .before .before .component-bytes .result in
     subst (Prepares (contentsOf (args .b .slots) (now (args .store))) (args .base) (now (args .store)) (now (args .guest)) (args .array))
     (sym (c .without-elements4 .ensures
-    ∙ (λ i. record { array = args .array; failure = Failure.Unreadable; len = 0; stride = c7 .step-of .ensures i; low = 1; last = 0; origin = 0 })))
+    ∙ (λ i. record { array = args .array; failure = Failure.Unreadable; len = 0; stride = stride c7 (c5 .if2 .left) i; low = 1; last = 0; origin = 0 })))
     (of-short (contentsOf (args .b .slots) (now (args .store))) (args .base) (now (args .store)) (now (args .guest)) (args .array) width
     (c7 .before .before .component-bytes .ensures) (c5 .before .if1 .left) (width * args .array .size) refl (c5 .if2 .left) _ (covered c10)
     (not-false (c10 .find-extent .result .known) (c3 .if3 .left)) (c .before .if4 .taken))
@@ -83,7 +89,7 @@ returns-5 c =
     let x = c11 .find-extent .result in
     subst (λ (k : ℕ). Prepares (contentsOf (args .b .slots) (now (args .store))) (args .base) (now (args .store)) (now (args .guest)) (args .array)
     (record { array = args .array; failure = Failure.None; len = width * args .array .size; stride = k; low = x .low; last = c .before .last-address .result; origin = x .origin }))
-    (sym (c8 .step-of .ensures))
+    (sym (stride c8 (c6 .if2 .left)))
     (of-whole (contentsOf (args .b .slots) (now (args .store))) (args .base) (now (args .store)) (now (args .guest)) (args .array) width
     (c8 .before .before .component-bytes .ensures) (c6 .before .if1 .left) (width * args .array .size) refl (c6 .if2 .left) x (covered c11)
     (not-false (x .known) (c4 .if3 .left)) (c2 .if4 .left) _ (c .before .last-address .ensures))

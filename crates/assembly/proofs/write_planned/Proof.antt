@@ -6,12 +6,14 @@ use native.Mathlib.Omega.{arith}
 use denote.Ref.{now}
 use lib.ListN.{length}
 use lib.Seq.{sets, length-sets}
+use Rattle.corners.specs.Places.{cornerPlace}
 use Rattle.corners.specs.declared.Primitive.{Primitive}
 use Rattle.vertex.specs.Scene.{Scene}
 use Rattle.vertex.specs.Vertex.{vertexWords, vertexOf}
 use Rattle.vertex.specs.SceneCode.{sceneIn, indexList}
 use Rattle.vertex.specs.declared.Vertex.{Vertex}
-use Rattle.assembly.specs.Corners.{cornerIndex, cornerWords}
+use Rattle.assembly.specs.Triangles.{vertexAt}
+use Rattle.assembly.specs.CornersCode.{cornerWords}
 use Rattle.assembly.proofs.Written.{sets-then, length-corners, corners-more}
 use borrow.Author.Needs.{needs}
 use Rattle.assembly.proofs.write_planned.Statement.{statement}
@@ -19,7 +21,7 @@ use Rattle.assembly.proofs.write_planned.Tie as tie
 
 -- the vertex of a corner
 abbrev corner : Scene → Primitive → List ℕ → ℕ → Vertex
-corner s p is q = vertexOf s (cornerIndex p is q)
+corner s p is q = vertexAt s is (cornerPlace p q)
 
 abbrev Inv-loop : tie.InvT-loop
 Inv-loop s plan store guest p kind list elements n out₀ c₀ out c =

@@ -1,23 +1,31 @@
 -- `corners::corners_of` meets its contract.
-use borrow.Author.Tests.{lt-ltb, le-ltb, eq-eqb, ne-eqb}
+use mathlib.Core.Path.{refl}
+use native.Mathlib.Omega.{arith}
+use borrow.Author.Tests.{eq-eqb, ne-eqb}
 use borrow.Author.Needs.{needs}
 use Rattle.corners.proofs.corners_of.Statement.{statement}
 use Rattle.corners.proofs.corners_of.Tie as tie
 
 returns : tie.Need-returns
-returns c = rw (le-ltb _ _ (c .if1 .taken))
+returns c = (λ h. absurd (omega (arith, h, c .if1 .taken)), λ _. refl)
 
 returns-2 : tie.Need-returns-2
-returns-2 c = rw (lt-ltb _ _ (c .before .before .if1 .left), c .enum-told .given .1)
+returns-2 c = (λ _. rw (c .enum-told .given .1), λ h. absurd (omega (arith, h, c .before .before .if1 .left)))
 
 returns-3 : tie.Need-returns-3
-returns-3 c = rw (lt-ltb _ _ (c .before .before .before .if1 .left), c .before .enum-told2 .given .1, eq-eqb _ _ (c .if2 .taken))
+returns-3 c = (
+  λ _. rw (c .before .enum-told2 .given .1, eq-eqb _ _ (c .if2 .taken)),
+  λ h. absurd (omega (arith, h, c .before .before .before .if1 .left)),
+)
 
 returns-4 : tie.Need-returns-4
-returns-4 c = rw (lt-ltb _ _ (c .before .before .before .if1 .left), c .before .enum-told2 .given .1, ne-eqb _ _ (c .if2 .left))
+returns-4 c = (
+  λ _. rw (c .before .enum-told2 .given .1, ne-eqb _ _ (c .if2 .left)),
+  λ h. absurd (omega (arith, h, c .before .before .before .if1 .left)),
+)
 
 returns-5 : tie.Need-returns-5
-returns-5 c = rw (lt-ltb _ _ (c .before .before .if1 .left), c .enum-told3 .given .1)
+returns-5 c = (λ _. rw (c .enum-told3 .given .1), λ h. absurd (omega (arith, h, c .before .before .if1 .left)))
 
 pub corners-of-spec : {M : Type 1} → statement M
 corners-of-spec =

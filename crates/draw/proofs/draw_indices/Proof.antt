@@ -6,10 +6,10 @@ use lib.ListN.{length}
 use lib.Seq.{sets}
 use Rattle.vertex.specs.SceneCode.{sceneIn}
 use Rattle.vertex.specs.SceneCode.{indexList}
-use Rattle.draw.specs.Triangles.{wordsOf}
+use Rattle.assembly.specs.Triangles.{wordsOf}
 use Rattle.draw.specs.Draw.{trianglesOf}
 use Rattle.draw.proofs.Drawing.{triangles-are, refused-draw, no-room, drawn}
-use Rattle.draw.proofs.Laws.{count-triangles}
+use Rattle.assembly.proofs.Triangles.{count-triangles}
 use borrow.Author.Needs.{needs}
 use Rattle.draw.proofs.draw_indices.Statement.{statement}
 use Rattle.draw.proofs.draw_indices.Tie as tie

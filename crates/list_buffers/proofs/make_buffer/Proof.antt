@@ -3,7 +3,6 @@ use borrow.Author.Needs.{needs}
 use Rattle.number.proofs.Tables.{last-row}
 use Rattle.list_buffers.proofs.Answers.{answers-is, replied-is}
 use mathlib.Core.Path.{refl, sym, ap, _∙_}
-use lib.Dec.{lit<}
 use Rattle.list_records.specs.Encoding.{bufferRows, bufferOf}
 use Rattle.context.specs.Calls.{genBuffers, bindBuffer}
 use Rattle.list_buffers.proofs.make_buffer.Statement.{statement}
@@ -19,7 +18,7 @@ returns c =
     let arm = c .before .before .match .keys1 in
     let long-at = c .before .long-at .ensures in
     let made = c .make-gen .ensures in
-    answers-is (ap genBuffers long-at ∙ (λ i. bufferOf (a .bytes .now) (sym arm i) (a .w .now))) ((made .0, made .1 .does _), made .1 .value-is)
+    answers-is (ap genBuffers long-at ∙ (λ i. bufferOf (a .bytes .now) (sym arm i) (a .w .now))) ((made .0, made .1 _), made .2)
 
 returns-2 : tie.Need-returns-2
 unfolding bufferOf

@@ -1,4 +1,4 @@
--- `runner::run_on` meets its contract: what is made and what is left are the whole list.
+-- `list_runner::run_on` meets its contract: what is made and what is left are the whole list.
 use mathlib.Core.List.{List}
 use mathlib.Core.Logic.{⊎-elim}
 use mathlib.Core.Path.{_≡_, refl, ap, _∙_}
@@ -11,20 +11,23 @@ use Rattle.stack.specs.Stack.{update}
 use Rattle.context.specs.Calls.{matrix, mode}
 use Rattle.list_records.specs.Encoding.{updateOf, callOf}
 use Rattle.list_runner.proofs.Calls.{is-mode, is-push, is-pop, is-update, is-buffer, is-array, is-attribute, is-pipeline, is-take-error, is-draw}
-use Rattle.list_runner.proofs.Calls.{changes, changes-draw, placed, currents-placed}
+use Rattle.list_runner.proofs.Calls.{performed, performed-draw, placed, currents-placed}
 use Rattle.list_runner.proofs.Running.{next-inside, Progress, progress-start, progress-next, progress-stop, progress-done, Stepped, joined, stayed}
 use Rattle.list_runner.proofs.run_on.Statement.{statement}
 use Rattle.list_runner.proofs.run_on.Tie as tie
 
 abbrev Inv-loop : tie.InvT-loop
-Inv-loop words bytes store₀ out₀ c₀ place₀ left₀ store out c place left =
-    Progress c₀ store₀ words bytes out₀ place left c store out × (place ≤ length words) × (length store ≡ length store₀) × (length out ≡ length out₀)
+Inv-loop words bytes store₀ out₀ c₀ place₀ left₀ number₀ value₀ store out c place left number value =
+    Progress c₀ store₀ words bytes out₀ place left number value c store out × (place ≤ length words) × (length store ≡ length store₀) × (length out ≡ length out₀)
 
 abbrev μ-loop : tie.MeasureT-loop
-μ-loop words bytes store₀ out₀ c₀ place₀ left₀ store out c place left = left
+μ-loop words bytes store₀ out₀ c₀ place₀ left₀ number₀ value₀ store out c place left number value = left
 
 loop-holds : tie.Need-loop-holds Inv-loop μ-loop
 loop-holds c = (progress-start, omega arith, refl, refl)
+
+sub-made : tie.Need-sub-made Inv-loop μ-loop
+sub-made c = omega (arith, c .before .before .before .loop .inv .0 .count)
 
 same-length : tie.Need-same-length Inv-loop μ-loop
 same-length c = c .before .before .before .loop .inv .2
@@ -33,9 +36,7 @@ same-length-2 : tie.Need-same-length-2 Inv-loop μ-loop
 same-length-2 c = c .before .before .before .loop .inv .3
 
 returns : tie.Need-returns Inv-loop μ-loop
-returns c =
-    let inv = c .before .before .before .loop .inv .0 in
-    progress-done (progress-stop inv (c .before .before .loop-test .taken) (c .before .next-size .ensures) (c .if1 .taken)) (omega arith)
+returns c = progress-stop (c .before .before .before .loop .inv .0) (c .before .before .loop-test .taken) (c .before .next-size .ensures) (c .if1 .taken)
 
 add-start : tie.Need-add-start Inv-loop μ-loop
 add-start c =
@@ -96,33 +97,40 @@ loop-again c =
     let code = c .before .before .word-at in
     let i = next-inside words bytes (at .place) (size .result) 0 (size .ensures) is-one in
     let w = take (at .place + size .result - (at .place + 2)) (drop (at .place + 2) words) in
-    let made : Stepped (at .c) (at .store) (at .out) (callOf bytes (length (at .out)) (code .result) w) (c .if2 .c) (c .if2 .store) (c .if2 .out) =
-    (⊎-elim (λ z. joined (stayed (changes (is-push bytes _ _ _ (z .0 .taken)) (z .1 .ensures _) refl)) (z .3) (z .4) (z .5))
-    (⊎-elim (λ z. joined (stayed (changes (is-pop bytes _ _ _ (z .1 .taken)) (z .2 .ensures _) refl)) (z .4) (z .5) (z .6))
-    (⊎-elim (λ z. joined (stayed (changes (ap mode (z .3 .ensures) ∙ is-mode bytes _ _ _ (z .2 .taken)) (z .4 .ensures _) refl)) (z .6) (z .7) (z .8))
+    let step : Stepped (at .c) (at .store) (at .out) (callOf bytes (length (at .out)) (code .result) w) (c .if2 .number) (c .if2 .value) (c .if2 .c) (c .if2 .store) (c .if2 .out) =
+    (⊎-elim (λ z. let m = z .1 .ensures _ in
+    joined (stayed (performed (is-push bytes _ _ _ (z .0 .taken)) m refl refl)) (z .3) (z .4) (placed m (z .5)) (z .6) (z .7))
+    (⊎-elim (λ z. let m = z .2 .ensures _ in
+    joined (stayed (performed (is-pop bytes _ _ _ (z .1 .taken)) m refl refl)) (z .4) (z .5) (placed m (z .6)) (z .7) (z .8))
+    (⊎-elim (λ z. let m = z .4 .ensures _ in
+    joined (stayed (performed (ap mode (z .3 .ensures) ∙ is-mode bytes _ _ _ (z .2 .taken)) m refl refl)) (z .6) (z .7) (z .8) (z .9) (z .10))
     (⊎-elim (λ z. let m = z .5 .ensures _ in
     let floats = ap (λ (f : List Float). matrix (update (updateOf (code .result) f))) (z .4 .ensures) in
-    joined (stayed (changes (floats ∙ is-update bytes _ _ _ (z .0 .left) (z .1 .left) (z .2 .left) (z .3 .taken)) m refl))
-    (z .8) (z .9) (currents-placed m (z .6 .ensures) (z .7 .ensures) (z .10)))
-    (⊎-elim (λ z. let m = z .6 .ensures .0 .1 in
-    joined (changes (is-buffer bytes _ _ _ (z .3 .left) (z .4 .taken)) m refl, z .6 .kept .1 .0, refl) (z .10) (z .11) (placed m (z .12)))
+    joined (stayed (performed (floats ∙ is-update bytes _ _ _ (z .0 .left) (z .1 .left) (z .2 .left) (z .3 .taken)) m refl refl))
+    (z .8) (z .9) (currents-placed m (z .6 .ensures) (z .7 .ensures) (z .10)) (z .11) (z .12))
+    (⊎-elim (λ z. let m = z .6 .ensures in
+    joined (performed (is-buffer bytes _ _ _ (z .3 .left) (z .4 .taken)) (m .0 .1) refl (m .1), z .6 .kept .1 .0, refl) (z .10) (z .11) (placed (m .0 .1) (z .12)) (z .13) (z .14))
     (⊎-elim (λ z. let m = z .6 .ensures _ in
-    joined (stayed (changes (is-array bytes _ _ _ (z .4 .left) (z .5 .taken)) m refl)) (z .8) (z .9) (placed m (z .10)))
+    joined (stayed (performed (is-array bytes _ _ _ (z .4 .left) (z .5 .taken)) m refl refl)) (z .8) (z .9) (placed m (z .10)) (z .11) (z .12))
     (⊎-elim (λ z. let m = z .7 .ensures _ in
-    joined (stayed (changes (is-attribute bytes _ _ _ (z .4 .left) (z .5 .left) (z .6 .taken)) m refl)) (z .9) (z .10) (placed m (z .11)))
+    joined (stayed (performed (is-attribute bytes _ _ _ (z .4 .left) (z .5 .left) (z .6 .taken)) m refl refl)) (z .9) (z .10) (placed m (z .11)) (z .12) (z .13))
     (⊎-elim (λ z. let m = z .8 .ensures _ in
-    joined (stayed (changes (is-pipeline bytes _ _ _ (z .4 .left) (z .5 .left) (z .6 .left) (z .7 .taken)) m refl)) (z .10) (z .11) (placed m (z .12)))
-    (⊎-elim (λ z. let m = z .9 .ensures .1 .does _ in
-    joined (stayed (changes (is-take-error bytes _ _ _ (z .4 .left) (z .5 .left) (z .6 .left) (z .7 .left) (z .8 .taken)) m refl)) (z .10) (z .11) (placed m (z .12)))
+    joined (stayed (performed (is-pipeline bytes _ _ _ (z .4 .left) (z .5 .left) (z .6 .left) (z .7 .taken)) m refl refl)) (z .10) (z .11) (placed m (z .12)) (z .13) (z .14))
+    (⊎-elim (λ z. let m = z .9 .ensures .1 _ in
+    joined (stayed (performed (is-take-error bytes _ _ _ (z .4 .left) (z .5 .left) (z .6 .left) (z .7 .left) (z .8 .taken)) m refl (z .9 .ensures .2)))
+    (z .10) (z .11) (placed m (z .12)) (z .13) (z .14))
     (λ z. let m = z .11 .ensures in
-    joined (changes-draw (is-draw bytes _ _ _ (z .4 .left) (z .5 .left) (z .6 .left) (z .7 .left) (z .8 .left)) m, refl, z .11 .kept .1 .1 .1 .1 .1 .0)
-    (z .14) (z .15) (placed (m .did .0) (z .16)))))))))))) (c .if2 .came)
+    joined (performed-draw (is-draw bytes _ _ _ (z .4 .left) (z .5 .left) (z .6 .left) (z .7 .left) (z .8 .left)) m, refl, z .11 .kept .1 .1 .1 .1 .1 .0)
+    (z .14) (z .15) (placed (m .did .0) (z .16)) (z .17) (z .18))))))))))) (c .if2 .came)
     in (
-      progress-next (at .inv .0) (c .before .before .before .before .before .loop-test .taken) (at .inv .3) (size .ensures) is-one (code .ensures) (made .0),
+      progress-next (at .inv .0) (c .before .before .before .before .before .loop-test .taken) (at .inv .3) (size .ensures) is-one (code .ensures) (step .0),
       omega (arith, i .1),
-      made .1 ∙ at .inv .2,
-      made .2 ∙ at .inv .3,
+      step .1 ∙ at .inv .2,
+      step .2 ∙ at .inv .3,
     )
+
+sub-made-2 : tie.Need-sub-made-2 Inv-loop μ-loop
+sub-made-2 c = omega (arith, c .before .loop .inv .0 .count)
 
 same-length-3 : tie.Need-same-length-3 Inv-loop μ-loop
 same-length-3 c = c .before .loop .inv .2
@@ -141,6 +149,7 @@ run-on-spec =
     μ-loop
     loop-holds
     (λ c κs. search needs)
+    sub-made
     same-length
     same-length-2
     returns
@@ -168,6 +177,7 @@ run-on-spec =
     sub-left
     loop-less
     loop-again
+    sub-made-2
     same-length-3
     same-length-4
     returns-2)

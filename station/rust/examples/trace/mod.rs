@@ -90,11 +90,15 @@ pub fn line(page: &mut impl Write, code: u32, numbers: &[u32]) -> io::Result<()>
 
 /// Prints the bits of f32, any NaN as 7fc00000.
 pub fn floats(page: &mut impl Write, values: &[f32]) -> io::Result<()> {
-    for (i, x) in values.iter().enumerate() {
-        let bits = if x.is_nan() { 0x7fc0_0000 } else { x.to_bits() };
-        write!(page, "{}{bits:08x}", if i == 0 { "" } else { " " })?;
+    let mut line = Vec::with_capacity(9 * values.len());
+    for x in values {
+        let bits: u32 = if x.is_nan() { 0x7fc0_0000 } else { x.to_bits() };
+        line.extend((0..8).rev().map(|i| b"0123456789abcdef"[(bits >> (4 * i) & 15) as usize]));
+        line.push(b' ');
     }
-    writeln!(page)
+    line.pop();
+    line.push(b'\n');
+    page.write_all(&line)
 }
 
 /// What word i of a draw's output holds before the draw.
