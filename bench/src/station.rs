@@ -11,9 +11,8 @@ use std::hint::black_box;
 /// Bytes of a context that a station keeps.
 const CONTEXT: usize = size_of::<State>();
 
-/// The most that a single state call may take, in copies of a context's bytes in and out: as long as four contexts that a host in
-/// Rust copies by value and back, 117 ns each where the bytes take 87 (docs/SPEED.md).
-const SINGLE: f64 = 5.3;
+/// The most that a single state call may take, in copies of a context's bytes in and out.
+const SINGLE: f64 = 4.0;
 
 /// The most that a state call in a list may take, against the same in `beonasul_repeat`: the rest is noise.
 const IN_LIST: f64 = 1.1;
