@@ -1,4 +1,6 @@
 // Client arrays and current values: the records, what they are at first, and one function for each kind of call on them.
+#![tactic(auto)]
+
 ghost use Rattle.std.specs.Prelude.{◌≡◌, ℕ, get_or};
 ghost use Rattle.number.specs.Tables.{lookup};
 ghost use Rattle.fetch.specs.Fetch.{fresh_array};
@@ -27,7 +29,7 @@ pub const INVALID_ENUM: u32 = 0x0500;
 
 // The seven arrays, and the client unit: the unit whose array a texture coordinate call is on.
 #[repr(C)]
-#[derive(Drop)]
+#[derive(Clone, Copy)]
 pub struct Arrays {
     pub vertex: ArrayPointer,
     pub color: ArrayPointer,
@@ -37,7 +39,7 @@ pub struct Arrays {
 }
 
 // The array that a call is on; of the texture coordinates the client unit's.
-#[derive(Drop)]
+#[derive(Clone, Copy)]
 pub enum ArrayKind {
     Vertex,
     Color,
@@ -46,7 +48,7 @@ pub enum ArrayKind {
 }
 
 // What a call answers: 0 for done or 0x0500 for refused, and the arrays after it.
-#[derive(Drop)]
+#[derive(Clone, Copy)]
 pub struct ArraysAnswer {
     pub number: u32,
     pub arrays: Arrays,
@@ -229,7 +231,7 @@ fn set_enabled(a: Arrays, kind: ArrayKind, on: bool) -> ArraysAnswer
 }
 
 // The array that a number stands for, or none.
-#[derive(Drop)]
+#[derive(Clone, Copy)]
 pub enum ArrayChoice {
     Known(ArrayKind),
     Unknown,
@@ -270,7 +272,7 @@ pub fn set_client_active_texture(a: Arrays, unit: u32) -> ArraysAnswer
 
 // Texture coordinates s and t.
 #[repr(C)]
-#[derive(Drop)]
+#[derive(Clone, Copy)]
 pub struct Pair {
     pub s: f32,
     pub t: f32,
@@ -278,14 +280,14 @@ pub struct Pair {
 
 // What a vertex has where an array is disabled: the current colour, and a pair for each unit.
 #[repr(C)]
-#[derive(Drop)]
+#[derive(Clone, Copy)]
 pub struct Attributes {
     pub color: [f32; 4],
     pub pairs: [Pair; UNIT_COUNT],
 }
 
 // What a call answers: 0 for done or 0x0500 for refused, and the attributes after it.
-#[derive(Drop)]
+#[derive(Clone, Copy)]
 pub struct AttributesAnswer {
     pub number: u32,
     pub attributes: Attributes,

@@ -1,4 +1,6 @@
 // Vertex assembly: the elements of arrays, the vertex of an index, the search for a position that cannot be fetched, corners in the output.
+#![tactic(auto)]
+
 ghost use Rattle.std.specs.Prelude.{◌≡◌, Bool, true, false, List, ℕ, ◌+◌, ◌-◌, ◌*◌, ◌/◌, ◌^◌, ◌<◌, ◌≤◌, min, length, get_or, take, drop};
 ghost use Rattle.std.proofs.lemmas.List.Edits.{sets};
 ghost use Rattle.number.specs.Numbers.{little_endian, signed_at};
@@ -249,7 +251,7 @@ fn pair_components(part: &[u8], ty: u32, size: u32) -> Vec4
 }
 
 // Why an array has no element, whatever the index.
-#[derive(Drop)]
+#[derive(Clone, Copy)]
 pub enum Failure {
     None,
     UnknownType,
@@ -260,7 +262,7 @@ pub enum Failure {
 
 // An array as a draw holds it: what is the same for every index. The element at an address from `low` to `last` has `len` bytes from
 // `origin + (address - low)` on, of the store or of the guest bytes. Where no address will do, `low` is above `last` and `failure` says why.
-#[derive(Drop)]
+#[derive(Clone, Copy)]
 pub struct Prepared {
     pub array: ArrayPointer,
     pub failure: Failure,
@@ -347,7 +349,7 @@ fn prepare(b: Buffers, store: &[u8], base: u32, guest: &[u8], array: ArrayPointe
 }
 
 // Where an element starts in the store or in the guest bytes, or why it is not there.
-#[derive(Drop)]
+#[derive(Clone, Copy)]
 pub enum Location {
     At(usize),
     UnknownType,
@@ -590,7 +592,7 @@ fn pair_at<'a>(
 }
 
 // The arrays of a scene, prepared: once a draw.
-#[derive(Drop)]
+#[derive(Clone, Copy)]
 pub struct Plan {
     pub position: Prepared,
     pub color: Prepared,

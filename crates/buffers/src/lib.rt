@@ -1,3 +1,5 @@
+#![tactic(auto)]
+
 ghost use Rattle.std.specs.Prelude.{◌≡◌, List, true, cond, ℕ, ◌+◌, ◌<◌, ◌≤◌, max, length, eqb, ltb};
 ghost use Rattle.std.proofs.Math.Seq.{paste};
 ghost use Rattle.number.specs.Decides.{Decides};
@@ -40,7 +42,7 @@ pub const INVALID_OPERATION: u32 = 0x0502;
 
 // A slot for a live buffer: its name and its length in bytes. Name 0 marks a free slot. Document 01 calls a slot a row.
 #[repr(C)]
-#[derive(Drop)]
+#[derive(Clone, Copy)]
 pub struct Slot {
     pub name: u32,
     pub len: u32,
@@ -48,7 +50,7 @@ pub struct Slot {
 
 // The buffer objects. Slot k's bytes are the first `len` of the 4,096 from 4096 * k in the borrowed store.
 #[repr(C)]
-#[derive(Drop)]
+#[derive(Clone, Copy)]
 pub struct Buffers {
     pub slots: [Slot; SLOT_COUNT],
     pub next: u32,
@@ -158,7 +160,7 @@ fn lifted(next: u32, name: u32) -> u32
 }
 
 // Whether a name could be made live, and the buffers after that.
-#[derive(Drop)]
+#[derive(Clone, Copy)]
 pub struct NameMade {
     pub ok: bool,
     pub buffers: Buffers,
@@ -198,7 +200,7 @@ fn make_name(b: Buffers, name: u32) -> NameMade
 }
 
 // A call's number, and the buffers after it.
-#[derive(Drop)]
+#[derive(Clone, Copy)]
 pub struct Answered {
     pub number: u32,
     pub buffers: Buffers,
@@ -269,7 +271,7 @@ fn write_padded(store: &mut [u8], at: usize, size: usize, data: &[u8])
     ensures { store.new ≡ overwrite store.old at (padded size «data».now) }
 {
     let n = number::smaller(size, data.len());
-    bytes::copy(&data[..n], &mut store[at..]);
+    store[at..at + n].copy_from_slice(&data[..n]);
     if data.len() < size {
         clear_bytes(&mut store[..], at, n, size);
     }
@@ -473,7 +475,7 @@ fn live_count(b: Buffers) -> usize
 }
 
 // gen's answer.
-#[derive(Drop)]
+#[derive(Clone, Copy)]
 pub struct Generated {
     pub number: u32,
     pub first: u32,

@@ -1,4 +1,6 @@
 // The context: all state but the bytes of the buffers, whether it is sound, and how a part that a call has changed is put back.
+#![tactic(auto)]
+
 ghost use Rattle.std.specs.Prelude.{◌≡◌, ◌<◌};
 ghost use Rattle.number.specs.Decides.{Decides};
 ghost use Rattle.number.specs.Tables.{lookup};
@@ -20,7 +22,7 @@ use stack::{Matrix, MatrixStack};
 use vertex::DrawInputs;
 
 // The stack that matrix calls go to.
-#[derive(Drop)]
+#[derive(Clone, Copy)]
 pub enum MatrixMode {
     Modelview,
     Projection,
@@ -28,7 +30,7 @@ pub enum MatrixMode {
 }
 
 #[repr(C)]
-#[derive(Drop)]
+#[derive(Clone, Copy)]
 pub struct Stacks {
     pub modelview: MatrixStack,
     pub projection: MatrixStack,
@@ -36,7 +38,7 @@ pub struct Stacks {
 }
 
 // All state, in parts by what the calls touch. The bytes of the buffers are in the store, which the caller lends.
-#[derive(Drop)]
+#[derive(Clone, Copy)]
 pub struct Context {
     pub mode: MatrixMode,
     pub stacks: Stacks,
@@ -48,14 +50,14 @@ pub struct Context {
 }
 
 // What a call answers: its number, 0 for done, and the context after it.
-#[derive(Drop)]
+#[derive(Clone, Copy)]
 pub struct Reply {
     pub number: u32,
     pub context: Context,
 }
 
 // gen's answer, with the first of the names.
-#[derive(Drop)]
+#[derive(Clone, Copy)]
 pub struct GenReply {
     pub number: u32,
     pub first: u32,
@@ -63,7 +65,7 @@ pub struct GenReply {
 }
 
 // take_error's answer, with the code that the slot held.
-#[derive(Drop)]
+#[derive(Clone, Copy)]
 pub struct ErrorReply {
     pub number: u32,
     pub code: u32,
@@ -71,7 +73,7 @@ pub struct ErrorReply {
 }
 
 // A draw's answer, with the number of its triangles.
-#[derive(Drop)]
+#[derive(Clone, Copy)]
 pub struct DrawReply {
     pub number: u32,
     pub count: usize,
@@ -92,7 +94,7 @@ pub fn slot_after(number: u32, slot: u32) -> u32
 }
 
 // The mode that a number stands for, or none.
-#[derive(Drop)]
+#[derive(Clone, Copy)]
 pub enum ModeChoice {
     Known(MatrixMode),
     Unknown,
@@ -133,7 +135,7 @@ fn is_unit(unit: u32) -> bool
 }
 
 // The current matrices of the three stacks: what a call that updates a matrix changes.
-#[derive(Drop)]
+#[derive(Clone, Copy)]
 pub struct Currents {
     pub modelview: Matrix,
     pub projection: Matrix,

@@ -1,8 +1,10 @@
 // Which places of a list of indices are the corners of triangles, and how many triangles there are.
+#![tactic(auto)]
+
 ghost use Rattle.std.specs.Prelude.{◌≡◌, ◌<◌, ◌≤◌};
 ghost use Rattle.corners.specs.Places.{primitive_of, triangle_count, corners_of, corner_place};
 
-#[derive(Drop)]
+#[derive(Clone, Copy)]
 pub enum Primitive {
     Triangles,
     Strip,
@@ -10,7 +12,7 @@ pub enum Primitive {
 }
 
 // The places of a triangle's corners in the index list.
-#[derive(Drop)]
+#[derive(Clone, Copy)]
 pub struct Corners {
     pub a: usize,
     pub b: usize,

@@ -1,4 +1,6 @@
 // Drawing below the calls: the triangles in the output, the three draws.
+#![tactic(auto)]
+
 ghost use Rattle.std.specs.Prelude.{◌≡◌, ℕ, ◌*◌, ◌<◌, ◌≤◌, length};
 ghost use Rattle.std.proofs.lemmas.List.Edits.{sets};
 ghost use Rattle.vertex.specs.Scene.{Source};
@@ -31,7 +33,7 @@ fn write_triangles<'a>(
 }
 
 // A draw's number, and how many triangles it wrote.
-#[derive(Drop)]
+#[derive(Clone, Copy)]
 pub struct Drawn {
     pub number: u32,
     pub count: usize,

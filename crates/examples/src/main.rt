@@ -1,6 +1,8 @@
 // Worked examples through the calls: ranges of indices, the values of a vertex, draws that are refused. Each line has a name and
 // the answers: numbers in decimal, f32 as bit patterns. A draw answers its number, its count and the code that take_error then
 // gives.
+#![tactic(auto)]
+
 use arrays::{COLOR_ARRAY, TEXTURE_COORD_ARRAY, TEXTURE0, VERTEX_ARRAY};
 use buffers::STORE_BYTES;
 use context::Context;

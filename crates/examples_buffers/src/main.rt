@@ -1,4 +1,6 @@
 // Worked examples through the calls: indices in a list, in guest bytes and in buffers; buffer objects. The lines are as in crate examples.
+#![tactic(auto)]
+
 use buffers::{ARRAY_BUFFER, ELEMENT_ARRAY_BUFFER, STORE_BYTES};
 use context::Context;
 use examples_shown::{AT_INDICES, BASE, BYTE, GUEST, TRIANGLES, UNSIGNED_BYTE, X};

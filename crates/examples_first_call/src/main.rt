@@ -1,4 +1,6 @@
 // A first program: three positions in guest bytes, moved by 1 along x and drawn as one triangle.
+#![tactic(auto)]
+
 use arrays::VERTEX_ARRAY;
 use buffers::STORE_BYTES;
 use context::Context;

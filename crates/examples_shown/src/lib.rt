@@ -1,4 +1,6 @@
 // What the worked examples share: their guest bytes, a vertex array on them, draws, and the lines that show what a draw answers.
+#![tactic(auto)]
+
 ghost use Rattle.examples_shown.specs.Shown.{HasVertices, HasPositions};
 
 use arrays::VERTEX_ARRAY;

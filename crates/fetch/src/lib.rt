@@ -1,4 +1,6 @@
 // Client arrays, what a fetch answers, and where bytes lie: in a buffer, or in guest memory.
+#![tactic(auto)]
+
 ghost use Rattle.std.specs.Prelude.{◌≡◌, true, false, cond, List, ℕ, ◌+◌, ◌-◌, ◌*◌, ◌<◌, ◌≤◌, min, eqb, length, take, drop};
 ghost use Rattle.std.proofs.Math.Option.{some, none};
 ghost use Rattle.buffers.specs.Objects.{slot_count, slot_bytes, slot_of, contents_of, len_at};
@@ -8,7 +10,7 @@ ghost use Rattle.fetch.specs.FetchCode.{part_source, Located};
 use buffers::{Buffers, SLOT_BYTES, SLOT_COUNT};
 
 // Four components.
-#[derive(Drop)]
+#[derive(Clone, Copy)]
 pub struct Vec4 {
     pub x: f32,
     pub y: f32,
@@ -17,7 +19,7 @@ pub struct Vec4 {
 }
 
 // What a fetch answers: four components, or the failure.
-#[derive(Drop)]
+#[derive(Clone, Copy)]
 pub enum Fetched {
     Components(Vec4),
     UnknownType,
@@ -28,7 +30,7 @@ pub enum Fetched {
 
 // A client array. With a buffer its pointer is an offset into it, else a guest address.
 #[repr(C)]
-#[derive(Drop)]
+#[derive(Clone, Copy)]
 pub struct ArrayPointer {
     pub enabled: bool,
     pub size: u32,
@@ -52,7 +54,7 @@ pub fn fresh_array() -> ArrayPointer
 }
 
 // Where bytes start in the store or in the guest bytes, or why they are not there.
-#[derive(Drop)]
+#[derive(Clone, Copy)]
 pub enum Place {
     At(usize),
     NoBuffer,
@@ -145,7 +147,7 @@ fn cut<'a>(bytes: &'a [u8], at: usize, len: usize) -> &'a [u8]
 }
 
 // Whether a range of bytes is there: in the named buffer, or with buffer 0 in guest memory.
-#[derive(Drop)]
+#[derive(Clone, Copy)]
 pub enum PartState {
     Found,
     NoBuffer,
@@ -219,7 +221,7 @@ pub fn part<'a>(
 }
 
 // The bytes that an array's elements are parts of: `room` bytes from `origin` on of the store or of the guest bytes, the first with the address `low`.
-#[derive(Drop)]
+#[derive(Clone, Copy)]
 pub struct Extent {
     pub known: bool,
     pub low: u32,

@@ -1,4 +1,6 @@
 // The calls of the client arrays and of the current colour and texture coordinates. Each takes the context by value and gives it back with the call's number.
+#![tactic(auto)]
+
 ghost use Rattle.arrays.specs.Arrays.{ArrayCall};
 ghost use Rattle.arrays.specs.Attributes.{AttributeCall};
 ghost use Rattle.context.specs.Calls.{Call, ObjectCall};

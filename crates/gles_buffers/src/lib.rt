@@ -1,4 +1,6 @@
 // The buffer calls. Each takes the context by value and gives it back with the call's number.
+#![tactic(auto)]
+
 ghost use Rattle.std.specs.Prelude.{◌≡◌};
 ghost use Rattle.buffers.specs.Objects.{gen_first};
 ghost use Rattle.context.specs.Calls.{Call, ObjectCall, BufferCall};

@@ -1,4 +1,6 @@
 // The draws. Each takes the context by value and gives it back with the call's number and its count of triangles.
+#![tactic(auto)]
+
 ghost use Rattle.std.specs.Prelude.{length};
 ghost use Rattle.vertex.specs.Scene.{Source};
 ghost use Rattle.context.specs.Calls.{Call};

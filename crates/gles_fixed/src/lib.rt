@@ -1,5 +1,7 @@
 // The fixed-point calls (document 02, Q-1). Each argument is a 16.16 number, and each call is its float form on the converted arguments. The matrix calls do the work themselves:
 // a second use of the functions of gles_matrix would make both forms slower in a list.
+#![tactic(auto)]
+
 ghost use Rattle.std.specs.Prelude.{◌≡◌, map};
 ghost use Rattle.number.specs.Numbers.{fixed};
 ghost use Rattle.stack.specs.Stack.{MatrixCall, MatrixUpdate};

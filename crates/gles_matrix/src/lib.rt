@@ -1,4 +1,6 @@
 // The matrix calls: the mode in force, its current matrix and its saved ones. Each takes the context by value and gives it back with the call's number.
+#![tactic(auto)]
+
 ghost use Rattle.stack.specs.Stack.{MatrixCall, MatrixUpdate};
 ghost use Rattle.context.specs.Calls.{Call};
 ghost use Rattle.context.specs.Contract.{Does};

@@ -1,4 +1,6 @@
 // The calls of the settings, and the one that takes the error. Each takes the context by value and gives it back with the call's number.
+#![tactic(auto)]
+
 ghost use Rattle.std.specs.Prelude.{◌≡◌};
 ghost use Rattle.pipeline.specs.Pipeline.{PipelineCall};
 ghost use Rattle.context.specs.Calls.{Call};

@@ -1,5 +1,7 @@
 // Push and pop on a stack that the caller lends and gets back altered: thin functions over those by value. The other two take a stack by
 // value and lend it to them: what the context's own push and pop call.
+#![tactic(auto)]
+
 ghost use Rattle.std.specs.Prelude.{◌≡◌};
 ghost use Rattle.stack.specs.Stack.{MatrixCall, stack_answer};
 

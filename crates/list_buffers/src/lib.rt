@@ -1,4 +1,6 @@
 // The functions that make the buffer calls of records.
+#![tactic(auto)]
+
 ghost use Rattle.std.specs.Prelude.{true, ◌≡◌};
 ghost use Rattle.context.specs.Calls.{Call, ObjectCall, BufferCall};
 ghost use Rattle.context.specs.Contract.{Did, Does};

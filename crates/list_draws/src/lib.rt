@@ -1,4 +1,6 @@
 // The draws of records: their words, and the functions that make them.
+#![tactic(auto)]
+
 ghost use Rattle.std.specs.Prelude.{◌≡◌, length};
 ghost use Rattle.list_records.specs.Encoding.{list_of, range_of, elements_of, source_of, draw_of_words};
 ghost use Rattle.list_records.specs.Perform.{DrewIn, reply_of};
@@ -8,7 +10,7 @@ use context::{Context, DrawReply};
 use list_records::CallReply;
 
 // The words that all draws have; `room` is held within the output.
-#[derive(Drop)]
+#[derive(Clone, Copy)]
 struct DrawWords {
     mode: u32,
     stages: u32,

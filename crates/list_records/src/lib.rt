@@ -1,4 +1,6 @@
 // Calls as records of words (specs/Encoding.antt): which there are, and the functions that make the calls of each group but buffer calls and draws.
+#![tactic(auto)]
+
 ghost use Rattle.std.specs.Prelude.{true, ◌≡◌};
 ghost use Rattle.stack.specs.Stack.{MatrixCall};
 ghost use Rattle.context.specs.Calls.{Call, ObjectCall};
@@ -10,7 +12,7 @@ ghost use Rattle.list_records.specs.Perform.{value_of, reply_of};
 use context::{Context, Reply};
 
 // What a call answers: besides its number the first name of gen_buffers, the code of take_error or the count of a draw. `known` is false where the words were no record's.
-#[derive(Drop)]
+#[derive(Clone, Copy)]
 pub struct CallReply {
     pub known: bool,
     pub number: u32,

@@ -1,4 +1,6 @@
 // The function that makes the call of a record, and the one that makes the calls of a list, one after the other (specs/Lists.antt).
+#![tactic(auto)]
+
 ghost use Rattle.std.proofs.Math.Option.{some};
 ghost use Rattle.std.specs.Prelude.{◌≡◌, length, drop};
 ghost use Rattle.list_records.specs.Encoding.{call_of, record_call};
@@ -74,7 +76,7 @@ pub fn make_call(
 
 // After a list: how many words were read and how many calls were made, number and value of the last call (0 where none was made), and the
 // context. The list was read whole where `read` is its length.
-#[derive(Drop)]
+#[derive(Clone, Copy)]
 pub struct ListReply {
     pub read: usize,
     pub made: usize,
@@ -84,7 +86,7 @@ pub struct ListReply {
 }
 
 // The same, with the number of a list that was asked for on a store.
-#[derive(Drop)]
+#[derive(Clone, Copy)]
 pub struct RunReply {
     pub number: u32,
     pub read: usize,

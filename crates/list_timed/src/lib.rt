@@ -1,4 +1,6 @@
 // The library as the benchmark calls it: lists of calls, numbers and slices only.
+#![tactic(auto)]
+
 ghost use Rattle.std.specs.Prelude.{List};
 ghost use Rattle.context.specs.Calls.{Call};
 ghost use Rattle.history.specs.Demand3.{History};

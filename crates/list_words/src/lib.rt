@@ -1,4 +1,6 @@
 // Reading arguments from words and bytes.
+#![tactic(auto)]
+
 ghost use Rattle.std.specs.Prelude.{◌≡◌, ◌+◌, take, drop};
 ghost use Rattle.list_words.specs.Words.{word_at, long_at, float_at, four_floats, matrix_floats, signed_at, four_signed, matrix_signed, bytes_at};
 

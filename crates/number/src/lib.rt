@@ -1,4 +1,6 @@
 // Bytes and whole numbers to f32, and f32 to and from their bit patterns.
+#![tactic(auto)]
+
 ghost use Rattle.std.specs.Prelude.{◌≡◌, ◌<◌, min, [], ◌∷◌, pos, from_bits, to_bits};
 ghost use Rattle.std.specs.Float.{binary32};
 ghost use Rattle.number.specs.F32.{nearest};

@@ -1,4 +1,6 @@
 // The pipeline settings: the record, what it is at first, and one function for each call that sets a part of it.
+#![tactic(auto)]
+
 ghost use Rattle.std.specs.Prelude.{◌≡◌};
 ghost use Rattle.number.specs.Tables.{lookup};
 ghost use Rattle.pipeline.specs.Enums.{compare_funcs, blend_factors, cull_modes, front_faces, fog_modes, tex_env_modes, compare_of, blend_of, cull_of};
@@ -8,7 +10,7 @@ ghost use Rattle.pipeline.specs.Pipeline.{pipeline_step, active_texture, capabil
 ghost use Rattle.pipeline.specs.Pipeline.{tex_env, tex_env_color, depth_func, depth_range, alpha_func, blend_func, cull_face, front_face, fog};
 
 // What depth and alpha are compared by.
-#[derive(Drop)]
+#[derive(Clone, Copy)]
 pub enum CompareFunc {
     Never,
     Less,
@@ -20,7 +22,7 @@ pub enum CompareFunc {
     Always,
 }
 
-#[derive(Drop)]
+#[derive(Clone, Copy)]
 pub enum BlendFactor {
     Zero,
     One,
@@ -36,7 +38,7 @@ pub enum BlendFactor {
 }
 
 // Which faces are dropped.
-#[derive(Drop)]
+#[derive(Clone, Copy)]
 pub enum CullMode {
     Front,
     Back,
@@ -44,13 +46,13 @@ pub enum CullMode {
 }
 
 // The winding of a front face.
-#[derive(Drop)]
+#[derive(Clone, Copy)]
 pub enum FrontFace {
     Cw,
     Ccw,
 }
 
-#[derive(Drop)]
+#[derive(Clone, Copy)]
 pub enum FogMode {
     Linear,
     Exp,
@@ -58,7 +60,7 @@ pub enum FogMode {
 }
 
 // How a texture's colour is combined with the fragment's.
-#[derive(Drop)]
+#[derive(Clone, Copy)]
 pub enum TexEnvMode {
     Modulate,
     Replace,
@@ -68,7 +70,7 @@ pub enum TexEnvMode {
 }
 
 // What a capability number switches. Ignored ones are accepted and change nothing.
-#[derive(Drop)]
+#[derive(Clone, Copy)]
 pub enum Capability {
     DepthTest,
     AlphaTest,
@@ -81,7 +83,7 @@ pub enum Capability {
 }
 
 // What a fog call sets.
-#[derive(Drop)]
+#[derive(Clone, Copy)]
 pub enum FogParameter {
     Mode,
     Density,
@@ -90,7 +92,7 @@ pub enum FogParameter {
     Unknown,
 }
 
-#[derive(Drop)]
+#[derive(Clone, Copy)]
 pub struct DepthState {
     pub test: bool,
     pub func: CompareFunc,
@@ -98,14 +100,14 @@ pub struct DepthState {
     pub far: f32,
 }
 
-#[derive(Drop)]
+#[derive(Clone, Copy)]
 pub struct AlphaState {
     pub test: bool,
     pub func: CompareFunc,
     pub reference: f32,
 }
 
-#[derive(Drop)]
+#[derive(Clone, Copy)]
 pub struct BlendState {
     pub enabled: bool,
     pub src: BlendFactor,
@@ -113,13 +115,13 @@ pub struct BlendState {
 }
 
 // The face is kept while culling is off.
-#[derive(Drop)]
+#[derive(Clone, Copy)]
 pub struct CullState {
     pub enabled: bool,
     pub mode: CullMode,
 }
 
-#[derive(Drop)]
+#[derive(Clone, Copy)]
 pub struct FogState {
     pub enabled: bool,
     pub mode: FogMode,
@@ -128,14 +130,14 @@ pub struct FogState {
     pub end: f32,
 }
 
-#[derive(Drop)]
+#[derive(Clone, Copy)]
 pub struct TextureUnit {
     pub enabled: bool,
     pub env_mode: TexEnvMode,
     pub env_color: [f32; 4],
 }
 
-#[derive(Drop)]
+#[derive(Clone, Copy)]
 pub struct Pipeline {
     pub active_texture: u32,
     pub units: [TextureUnit; 4],
@@ -148,44 +150,44 @@ pub struct Pipeline {
 }
 
 // What a call answers: 0 for done or 0x0500 for refused, and the settings after it.
-#[derive(Drop)]
+#[derive(Clone, Copy)]
 pub struct PipelineAnswer {
     pub number: u32,
     pub pipeline: Pipeline,
 }
 
 // A number that stands for a choice, or for none.
-#[derive(Drop)]
+#[derive(Clone, Copy)]
 pub enum CompareChoice {
     Known(CompareFunc),
     Unknown,
 }
 
-#[derive(Drop)]
+#[derive(Clone, Copy)]
 pub enum BlendChoice {
     Known(BlendFactor),
     Unknown,
 }
 
-#[derive(Drop)]
+#[derive(Clone, Copy)]
 pub enum CullChoice {
     Known(CullMode),
     Unknown,
 }
 
-#[derive(Drop)]
+#[derive(Clone, Copy)]
 pub enum FaceChoice {
     Known(FrontFace),
     Unknown,
 }
 
-#[derive(Drop)]
+#[derive(Clone, Copy)]
 pub enum FogChoice {
     Known(FogMode),
     Unknown,
 }
 
-#[derive(Drop)]
+#[derive(Clone, Copy)]
 pub enum EnvChoice {
     Known(TexEnvMode),
     Unknown,

@@ -1,4 +1,6 @@
 // Replays a trace: reads records from standard input, makes their calls and writes the answers to standard output.
+#![tactic(auto)]
+
 ghost use Rattle.std.specs.Prelude.{true, ◌≡◌};
 ghost use Rattle.replay.specs.Replayed.{Comes, Replays};
 

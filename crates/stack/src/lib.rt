@@ -1,11 +1,13 @@
 // The matrix stack by value: a current matrix and the saved ones.
+#![tactic(auto)]
+
 ghost use Rattle.std.specs.Prelude.{◌≡◌};
 ghost use Rattle.number.specs.Decides.{Decides};
 ghost use Rattle.stack.specs.Stack.{Sound, MatrixCall, stack_answer, fresh_stack};
 
 // 16 f32, column by column.
 #[repr(C)]
-#[derive(Drop)]
+#[derive(Clone, Copy)]
 pub struct Matrix {
     pub entries: [f32; 16],
 }
@@ -27,7 +29,7 @@ pub const SAVED_LIMIT: usize = 15;
 
 // A current matrix, and `depth` saved ones: the first of `saved`. With the number between the two, the compiler can copy the one without the other.
 #[repr(C)]
-#[derive(Drop)]
+#[derive(Clone, Copy)]
 pub struct MatrixStack {
     pub current: Matrix,
     pub depth: usize,
@@ -35,7 +37,7 @@ pub struct MatrixStack {
 }
 
 // A call's number, 0 for done, and the stack after it.
-#[derive(Drop)]
+#[derive(Clone, Copy)]
 pub struct StackAnswer {
     pub number: u32,
     pub stack: MatrixStack,

@@ -1,4 +1,6 @@
 // The context as a host of another language keeps it between calls: a record of numbers, lent to each call (specs/Kept.antt).
+#![tactic(auto)]
+
 ghost use Rattle.std.specs.Prelude.{◌≡◌, map};
 ghost use Rattle.station.specs.Kept.{mode_code, compare_code, blend_code, cull_code, face_code, fog_code, env_code, mode_from, compare_from, blend_from, cull_from, face_from};
 ghost use Rattle.station.specs.Kept.{fog_from, env_from, kept_unit, unit_from, kept_settings, settings_from, kept_of, context_from};
@@ -26,7 +28,7 @@ pub const REPLY_BYTES: u32 = 24;
 pub const NO_RECORD: u32 = 23;
 
 #[repr(C)]
-#[derive(Drop)]
+#[derive(Clone, Copy)]
 pub struct KeptUnit {
     pub enabled: bool,
     pub env_mode: u32,
@@ -35,7 +37,7 @@ pub struct KeptUnit {
 
 // The settings, each choice as its enumerant.
 #[repr(C)]
-#[derive(Drop)]
+#[derive(Clone, Copy)]
 pub struct KeptSettings {
     pub active_texture: u32,
     pub units: [KeptUnit; 4],
@@ -60,7 +62,7 @@ pub struct KeptSettings {
 }
 
 #[repr(C)]
-#[derive(Drop)]
+#[derive(Clone, Copy)]
 pub struct Kept {
     pub stacks: Stacks,
     pub buffers: Buffers,
@@ -527,7 +529,7 @@ fn is_context(mode: u32, settings: KeptSettings) -> bool
 
 // What a list of calls answers besides the context: number and value of its last call, and how many calls were made.
 #[repr(C)]
-#[derive(Drop)]
+#[derive(Clone, Copy)]
 pub struct StationReply {
     pub number: u32,
     pub value: usize,
@@ -535,7 +537,7 @@ pub struct StationReply {
 }
 
 // The same with the context after it.
-#[derive(Drop)]
+#[derive(Clone, Copy)]
 pub struct KeptReply {
     pub reply: StationReply,
     pub kept: Kept,
@@ -594,7 +596,7 @@ pub fn run(k: Kept, store: &mut [u8], words: &[u32], bytes: &[u8], out: &mut [f3
 
 // What both sides of the boundary must agree on: its version, and the bytes of a kept context, of a reply and of a store.
 #[repr(C)]
-#[derive(Drop)]
+#[derive(Clone, Copy)]
 pub struct Layout {
     pub version: u32,
     pub context: u32,

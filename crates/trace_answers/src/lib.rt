@@ -1,4 +1,6 @@
 // The lines of a trace's answers, written to standard output. A line is a name, numbers, words of f32.
+#![tactic(auto)]
+
 ghost use Rattle.io.specs.Counts.{IsPrefixLen};
 
 use stack::{Matrix, MatrixStack, SAVED_LIMIT};

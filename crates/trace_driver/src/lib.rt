@@ -1,4 +1,6 @@
 // What the records of a trace say: settings, which records may come in a state, stacks outside the context, calls and draws.
+#![tactic(auto)]
+
 ghost use Rattle.std.specs.Prelude.{◌≡◌, length};
 ghost use Rattle.vertex.specs.Index.{range_count};
 ghost use Rattle.history.specs.Demand3.{DrawDid};
@@ -19,7 +21,7 @@ use trace_format::{MAX_ENTRIES, STORE_AREA};
 // ---- settings
 
 // What the calls borrow: the guest view's base and number of bytes, and how many bytes of the store.
-#[derive(Drop)]
+#[derive(Clone, Copy)]
 pub struct Borrowed {
     pub base: u32,
     pub guest: usize,

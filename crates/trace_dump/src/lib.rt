@@ -1,4 +1,6 @@
 // What DUMP prints: the state of a context, section by section.
+#![tactic(auto)]
+
 ghost use Rattle.std.specs.Prelude.{◌≡◌};
 ghost use Rattle.trace_dump.specs.Sections.{has_section};
 

@@ -1,4 +1,6 @@
 // The records of a trace: whether a record keeps the format, words from bytes, areas that are filled by a rule.
+#![tactic(auto)]
+
 ghost use Rattle.std.specs.Prelude.{◌≡◌, ◌+◌, ◌-◌, ◌/◌, ◌<◌, length};
 ghost use Rattle.std.specs.Float.{binary32};
 ghost use Rattle.std.specs.Float.Ieee.{of_bits};
@@ -22,7 +24,7 @@ const MAX_UPLOAD: u32 = 8192;
 const ANY: u32 = 0xffff_ffff;
 
 // Why a reader stops at a record. Shape: the opcode is unknown, or the number of words is not the opcode's.
-#[derive(Drop)]
+#[derive(Clone, Copy)]
 pub enum Fault {
     None,
     Shape,

@@ -1,4 +1,6 @@
 // Reads the records of a trace from standard input. Where one does not keep the format the answers end with the error line.
+#![tactic(auto)]
+
 ghost use Rattle.std.specs.Prelude.{true, false, ◌≡◌, ◌≤◌, length};
 ghost use Rattle.trace_reader.specs.Kept.{opening_of, header_of, Kept, ReadFrom};
 
@@ -7,7 +9,7 @@ use trace_format::{Fault, MAX_WORDS};
 const STDIN: i32 = 0;
 
 // A record that was read: its opcode, and how many words it has. Not `going` where there is none.
-#[derive(Drop)]
+#[derive(Clone, Copy)]
 pub struct Header {
     pub going: bool,
     pub code: u32,
@@ -15,7 +17,7 @@ pub struct Header {
 }
 
 // The two words before a record's own: its opcode, and how many words it has.
-#[derive(Drop)]
+#[derive(Clone, Copy)]
 struct Opening {
     code: u32,
     n: u32,

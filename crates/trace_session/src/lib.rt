@@ -1,4 +1,6 @@
 // What a record of a trace does to what the program holds: the context, the areas and the stacks outside the context. Its answers are written.
+#![tactic(auto)]
+
 ghost use Rattle.std.specs.Prelude.{◌≡◌};
 ghost use Rattle.trace_driver.specs.Stacks.{is_stack_record, stack_record, outer_stacks_after};
 ghost use Rattle.trace_session.specs.Records.{CallDone, DrawDone, Inspected, Done};

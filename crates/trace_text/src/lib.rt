@@ -1,5 +1,7 @@
 // Text put into an area of bytes, piece by piece. Each function answers the place after the piece;
 // a piece that does not fit leaves the area as it is.
+#![tactic(auto)]
+
 ghost use Rattle.std.specs.Prelude.{◌≡◌, ◌%◌, min, length};
 ghost use Rattle.io.specs.Counts.{IsPrefixLen};
 ghost use Rattle.io.specs.Digits.{hex_digit_ascii};
@@ -22,7 +24,7 @@ pub fn put(area: &mut [u8], at: usize, text: &[u8]) -> usize
     if area.len() - start < text.len() {
         return start;
     }
-    bytes::copy(text, &mut area[start..]);
+    area[start..start + text.len()].copy_from_slice(text);
     start + text.len()
 }
 

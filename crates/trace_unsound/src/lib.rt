@@ -1,4 +1,6 @@
 // Contexts that a record of a trace makes unsound, to see that every call refuses them.
+#![tactic(auto)]
+
 ghost use Rattle.std.specs.Prelude.{◌≡◌, max};
 ghost use Rattle.buffers.specs.Objects.{slot_count};
 ghost use Rattle.trace_unsound.specs.Kinds.{Greatest, slot_replaced, other_than, BuffersMade, ContextMade};

@@ -1,4 +1,6 @@
 // What a draw reads: its scene, its indices, the tests on both.
+#![tactic(auto)]
+
 ghost use Rattle.std.specs.Prelude.{◌≡◌, cond, List, ℕ, ◌+◌, ◌-◌, ◌/◌, ◌%◌, ◌<◌, min, eqb, length, get_or};
 ghost use Rattle.vertex.specs.Index.{up_from, numbers, index_width};
 ghost use Rattle.vertex.specs.SceneCode.{scene_in, index_list};
@@ -9,7 +11,7 @@ use buffers::Buffers;
 use fetch::PartState;
 
 // Where the indices of a draw come from: the borrowed list; from a number up to another, the end left out; bytes or little-endian shorts of the borrowed element bytes.
-#[derive(Drop)]
+#[derive(Clone, Copy)]
 pub enum Indices {
     List,
     Range(u32, u32),
@@ -18,7 +20,7 @@ pub enum Indices {
 }
 
 // What a vertex is made from, besides its index and the bytes of store and guest.
-#[derive(Drop)]
+#[derive(Clone, Copy)]
 pub struct DrawInputs {
     pub transform: [f32; 16],
     pub modelview: [f32; 16],
@@ -31,7 +33,7 @@ pub struct DrawInputs {
 }
 
 // 17 f32: position, colour, four pairs of texture coordinates by unit, fog depth.
-#[derive(Drop)]
+#[derive(Clone, Copy)]
 pub struct Vertex {
     pub position: [f32; 4],
     pub color: [f32; 4],

@@ -1,5 +1,7 @@
 // The guest view, its read, and the draws that take one: each function calls another with the base and the bytes of the view in its place.
 // The draws with `_at` make the view.
+#![tactic(auto)]
+
 ghost use Rattle.std.specs.Prelude.{◌≡◌, length};
 ghost use Rattle.fetch.specs.Fetch.{in_guest, is_found, bytes_in};
 ghost use Rattle.vertex.specs.Scene.{Source};
@@ -9,7 +11,7 @@ ghost use Rattle.context.specs.Contract.{Did, Drew, draw_call, drawn_of};
 use context::{Context, DrawReply};
 
 // The guest view: the address of the first guest byte, and the guest bytes.
-#[derive(Drop)]
+#[derive(Clone, Copy)]
 pub struct GuestView<'a> {
     pub base: u32,
     pub bytes: &'a [u8],

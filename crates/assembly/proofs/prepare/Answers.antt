@@ -1,0 +1,91 @@
+-- `assembly::prepare` meets its contract: each way out is a case of the law on prepared arrays.
+use Prim.Native.Nat.{ℕ, ◌*◌, ◌≤◌}
+use mathlib.Core.Path.{◌≡◌, refl, sym, ap, subst, ◌∙◌}
+use native.Mathlib.Omega.{arith}
+use borrow.Author.Tests.{not-true, not-false}
+use Rattle.buffers.specs.Objects.{contents_of}
+use Rattle.fetch.specs.Fetch.{last_address, stride_of, part_of}
+use Rattle.fetch.specs.FetchCode.{part_source}
+use Rattle.fetch.proofs.Extents.{Covers, covers}
+use Rattle.assembly.specs.ElementsCode.{Prepares}
+use Rattle.assembly.specs.declared.Failure.{Failure}
+use Rattle.assembly.proofs.Addresses.{below}
+use Rattle.assembly.proofs.Widths.{width_small}
+use Rattle.assembly.proofs.Preparing.{of_no_type, of_long, of_absent, of_short, of_whole}
+use borrow.Author.Rules.{rules}
+use Rattle.assembly.proofs.prepare.Goals as goal
+
+-- what the extent covers
+covered : (c : goal.After-find_extent-x) →
+    let args = c.args in
+    Covers (part_of (contents_of args.b.slots args.store.now) args.base args.guest.now args.array.buffer)
+    (part_source args.array.buffer args.store.now args.guest.now) c.find_extent-x.result
+covered c =
+    let args = c.args in
+    covers args.b.slots args.store.now args.guest.now args.base args.array.buffer _ c.find_extent-x.ensures
+
+-- the distance between the elements, where their length is within 32 bits
+stride : (c : goal.After-step_of-stride) →
+    let array = c.args.array in
+    c.component_bytes-width.result * array.size ≤ last_address → c.step_of-stride.result ≡ stride_of array
+stride c h =
+    let array = c.args.array in
+    c.step_of-stride.ensures array refl (ap (λ (k : ℕ). k * array.size) c.component_bytes-width.ensures) h
+
+pub overflow_mul-len : goal.overflow_mul-len
+overflow_mul-len c = record { fits = below 32 (omega (arith, c.component_bytes-width.ensures, width_small c.args.array.ty)) (search rules) }
+
+pub returns-then-width-eq0 : goal.returns-then-width-eq0
+returns-then-width-eq0 c =
+    let args = c.args in
+    let width = c.component_bytes-width.result in
+    subst (Prepares (contents_of args.b.slots args.store.now) args.base args.store.now args.guest.now args.array)
+    (sym c.without_elements.ensures)
+    (of_no_type (contents_of args.b.slots args.store.now) args.base args.store.now args.guest.now args.array width
+    c.component_bytes-width.ensures c.if-width-eq0.true c.step_of-stride.result)
+
+pub returns-then-len-gt-LAST_ADDRESS : goal.returns-then-len-gt-LAST_ADDRESS
+returns-then-len-gt-LAST_ADDRESS c =
+    let args = c.args in
+    let width = c.component_bytes-width.result in
+    subst (Prepares (contents_of args.b.slots args.store.now) args.base args.store.now args.guest.now args.array)
+    (sym c.without_elements-then-len-gt-LAST_ADDRESS.ensures)
+    (of_long (contents_of args.b.slots args.store.now) args.base args.store.now args.guest.now args.array width
+    c.component_bytes-width.ensures c.if-width-eq0.false c.if-len-gt-LAST_ADDRESS.true c.step_of-stride.result)
+
+pub returns-then-not-x : goal.returns-then-not-x
+returns-then-not-x c =
+    let args = c.args in
+    let width = c.component_bytes-width.result in
+    subst (Prepares (contents_of args.b.slots args.store.now) args.base args.store.now args.guest.now args.array)
+    (sym (c.without_elements-then-not-x.ensures
+    ∙ (λ i. record { array = args.array; failure = Failure.NoBuffer; len = 0; stride = stride c c.if-len-gt-LAST_ADDRESS.false i; low = 1; last = 0; origin = 0 })))
+    (of_absent (contents_of args.b.slots args.store.now) args.base args.store.now args.guest.now args.array width
+    c.component_bytes-width.ensures c.if-width-eq0.false (width * args.array.size) refl c.if-len-gt-LAST_ADDRESS.false _ (covered c)
+    (not-true c.find_extent-x.result.known c.if-not-x.true))
+
+pub returns-then-x-len : goal.returns-then-x-len
+returns-then-x-len c =
+    let args = c.args in
+    let width = c.component_bytes-width.result in
+    subst (Prepares (contents_of args.b.slots args.store.now) args.base args.store.now args.guest.now args.array)
+    (sym (c.without_elements-then-x-len.ensures
+    ∙ (λ i. record { array = args.array; failure = Failure.Unreadable; len = 0; stride = stride c c.if-len-gt-LAST_ADDRESS.false i; low = 1; last = 0; origin = 0 })))
+    (of_short (contents_of args.b.slots args.store.now) args.base args.store.now args.guest.now args.array width
+    c.component_bytes-width.ensures c.if-width-eq0.false (width * args.array.size) refl c.if-len-gt-LAST_ADDRESS.false _ (covered c)
+    (not-false c.find_extent-x.result.known c.if-not-x.false) c.if-x-len.true)
+
+pub overflow_cast-result-2 : goal.overflow_cast-result-2
+overflow_cast-result-2 c = omega (arith, (covered c).near)
+
+pub returns : goal.returns
+returns c =
+    let args = c.args in
+    let width = c.component_bytes-width.result in
+    let x = c.find_extent-x.result in
+    subst (λ (k : ℕ). Prepares (contents_of args.b.slots args.store.now) args.base args.store.now args.guest.now args.array
+    (record { array = args.array; failure = Failure.None; len = width * args.array.size; stride = k; low = x.low; last = c.last_address.result; origin = x.origin }))
+    (sym (stride c c.if-len-gt-LAST_ADDRESS.false))
+    (of_whole (contents_of args.b.slots args.store.now) args.base args.store.now args.guest.now args.array width
+    c.component_bytes-width.ensures c.if-width-eq0.false (width * args.array.size) refl c.if-len-gt-LAST_ADDRESS.false x (covered c)
+    (not-false x.known c.if-not-x.false) c.if-x-len.false _ c.last_address.ensures)

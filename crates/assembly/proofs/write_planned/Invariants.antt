@@ -1,0 +1,24 @@
+use Prim.Native.Nat.{ℕ, ◌-◌, ◌*◌, ◌≤◌}
+use mathlib.Core.List.{List}
+use mathlib.Core.Path.{◌≡◌, refl, ap, ◌∙◌}
+use native.Mathlib.Omega.{arith}
+use lib.ListN.{length}
+use lib.Seq.{sets, length-sets}
+use Rattle.corners.specs.Places.{corner_place}
+use Rattle.corners.specs.declared.Primitive.{Primitive}
+use Rattle.vertex.specs.Scene.{Scene}
+use Rattle.vertex.specs.Vertex.{vertex_words, vertex_of}
+use Rattle.vertex.specs.SceneCode.{scene_in, index_list}
+use Rattle.vertex.specs.declared.Vertex.{Vertex}
+use Rattle.assembly.specs.Triangles.{vertex_at}
+use Rattle.assembly.specs.CornersCode.{corner_words}
+use Rattle.assembly.proofs.Written.{sets_then, length_corners, corners_more}
+use borrow.Author.Rules.{rules}
+use Rattle.assembly.proofs.write_planned.Given as goal
+
+abbrev pub invariant-loop-c : goal.invariant-loop-c
+invariant-loop-c l =
+    (l.c ≤ l.n) × (l.out ≡ sets l.initial.out 0 (corner_words (corner (scene_in l.s l.store l.guest) l.p (index_list l.kind l.list l.elements)) l.c))
+
+abbrev pub decreases-loop-c : goal.decreases-loop-c
+decreases-loop-c l = l.n - l.c

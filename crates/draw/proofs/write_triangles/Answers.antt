@@ -1,0 +1,21 @@
+-- `draw::write_triangles` meets its contract: three corners to a triangle.
+use mathlib.Core.Path.{ap, ◌∙◌}
+use native.Mathlib.Omega.{arith}
+use lib.Seq.{sets}
+use Rattle.vertex.specs.SceneCode.{scene_in, index_list}
+use Rattle.assembly.specs.Triangles.{vertex_at}
+use Rattle.assembly.proofs.CornerLists.{triangles_front}
+use borrow.Author.Rules.{rules}
+use Rattle.draw.proofs.write_triangles.Goals as goal
+
+pub overflow_mul-count : goal.overflow_mul-count
+overflow_mul-count c =
+    omega (arith, c.well_formed.1.1.1.1.1.1.1.1.0, c.requires)
+
+pub returns : goal.returns
+returns c =
+    let args = c.args in
+    c.write_corners.ensures.0 (omega (arith, c.requires))
+    ∙ ap (sets args.out.now 0)
+    (triangles_front (vertex_at (scene_in args.s args.store.now args.guest.now) (index_list args.kind args.list.now args.elements.now))
+    args.p args.count)

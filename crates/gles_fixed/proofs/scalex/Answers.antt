@@ -1,0 +1,14 @@
+-- `gles_fixed::scalex` meets its contract, from the current matrix of the mode in force and the converted arguments.
+use mathlib.Core.Path.{refl}
+use borrow.Author.Rules.{rules}
+use Rattle.context.proofs.Entries.{product_does}
+use Rattle.gles_fixed.proofs.Converted.{converted}
+use Rattle.gles_fixed.proofs.scalex.Goals as goal
+
+pub returns : goal.returns
+returns c =
+    let fits = c.ranges in
+    let x = converted _ fits.x c.fixed_to_f32.ensures in
+    let y = converted _ fits.y c.fixed_to_f32-2.ensures in
+    let z = converted _ fits.z c.fixed_to_f32-3.ensures in
+    product_does _ _ _ (λ x. refl) refl c.currents-currents.ensures (rw (x, y, z) at c.scale-m.ensures) c.multiply.ensures c.answer_currents.ensures

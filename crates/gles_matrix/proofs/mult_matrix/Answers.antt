@@ -1,0 +1,8 @@
+-- `gles_matrix::mult_matrix` meets its contract, from the current matrix of the mode in force.
+use mathlib.Core.Path.{refl}
+use Rattle.context.proofs.Entries.{product_does}
+use borrow.Author.Rules.{rules}
+use Rattle.gles_matrix.proofs.mult_matrix.Goals as goal
+
+pub returns : goal.returns
+returns c = product_does _ _ _ (λ x. refl) refl c.currents-currents.ensures refl c.multiply.ensures c.answer_currents.ensures

@@ -1,0 +1,9 @@
+-- `gles_matrix::scale` meets its contract, from the current matrix of the mode in force.
+use mathlib.Core.Path.{refl}
+use Rattle.context.proofs.Entries.{product_does}
+use borrow.Author.Rules.{rules}
+use Rattle.gles_matrix.proofs.scale.Goals as goal
+
+pub returns : goal.returns
+returns c =
+    product_does _ _ _ (λ x. refl) refl c.currents-currents.ensures c.scale.ensures c.multiply.ensures c.answer_currents.ensures

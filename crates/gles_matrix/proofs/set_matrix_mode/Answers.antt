@@ -1,0 +1,17 @@
+-- `gles_matrix::set_matrix_mode` meets its contract: each arm is the case of the table's answer.
+use borrow.Author.Tests.{not-true, not-false}
+use Rattle.context.proofs.Entries.{unsound, mode_known, mode_unknown}
+use borrow.Author.Rules.{rules}
+use Rattle.gles_matrix.proofs.set_matrix_mode.Goals as goal
+
+pub returns-then-not-is_sound : goal.returns-then-not-is_sound
+returns-then-not-is_sound c = rw c.refuse.ensures (λ s. unsound _ _ s (c.is_sound.ensures.no (not-true _ c.if-not-is_sound.true)))
+
+pub returns-in-Known : goal.returns-in-Known
+returns-in-Known c =
+    mode_known _ _ (c.is_sound.ensures.yes (not-false _ c.if-not-is_sound.false)) _ (rw (← c.matrix_mode-found.ensures, c.in-Known.is))
+
+pub returns-in-Unknown : goal.returns-in-Unknown
+returns-in-Unknown c =
+    rw c.slot_after-error.ensures
+    (mode_unknown _ _ (c.is_sound.ensures.yes (not-false _ c.if-not-is_sound.false)) (rw (← c.matrix_mode-found.ensures, c.in-Unknown.is)))

@@ -1,0 +1,9 @@
+-- `gles_matrix::translate` meets its contract, from the current matrix of the mode in force.
+use mathlib.Core.Path.{refl}
+use Rattle.context.proofs.Entries.{product_does}
+use borrow.Author.Rules.{rules}
+use Rattle.gles_matrix.proofs.translate.Goals as goal
+
+pub returns : goal.returns
+returns c =
+    product_does _ _ _ (λ x. refl) refl c.currents-currents.ensures c.translate.ensures c.multiply.ensures c.answer_currents.ensures

@@ -1,0 +1,12 @@
+-- `gles_pipeline::take_error` meets its contract: the slot is given out and emptied.
+use mathlib.Core.Path.{refl}
+use borrow.Author.Tests.{not-true, not-false}
+use Rattle.context.proofs.Entries.{unsound, take_error_does}
+use borrow.Author.Rules.{rules}
+use Rattle.gles_pipeline.proofs.take_error.Goals as goal
+
+pub returns-then-not-is_sound : goal.returns-then-not-is_sound
+returns-then-not-is_sound c = (λ s. unsound _ _ s (c.is_sound.ensures.no (not-true _ c.if-not-is_sound.true)), refl)
+
+pub returns : goal.returns
+returns c = (take_error_does _ (c.is_sound.ensures.yes (not-false _ c.if-not-is_sound.false)), refl)

@@ -1,0 +1,29 @@
+-- `draw_records::make_stored_draw` meets its contract.
+use Rattle.list_draws.proofs.Draws.{room_fits, room_is, drew_in}
+use Rattle.vertex.specs.Scene.{elements}
+use borrow.Author.Rules.{rules}
+use Rattle.list_draws.proofs.make_stored_draw.Goals as goal
+
+slice-relend-prefix-draw-elements-from-guest :
+    tie.Need-slice-relend-prefix-draw-elements-from-guest
+slice-relend-prefix-draw-elements-from-guest c =
+    let a = c.before.before.before.before.before.before.before.before.before.args in
+    let draw-words = c.before.before.before.before.draw-words.ensures in
+    room_fits a.w.now a.out.now _ draw-words
+
+pub slice_bounds-draw_elements_from_guest-end-2 : goal.slice_bounds-draw_elements_from_guest-end-2
+slice_bounds-draw_elements_from_guest-end-2 c =
+    let a = c.args in
+    let draw-words = c.draw_words-d.ensures in
+    room_is a.w.now a.out.now _ draw-words
+
+pub returns : goal.returns
+returns c =
+    let a = c.args in
+    let draw-words = c.draw_words-d.ensures in
+    let part_at = c.part_at-guest.ensures in
+    let word_at = c.word_at-count.ensures in
+    let word-at2 = c.word_at-ty.ensures in
+    let word-at3 = c.word_at-pointer.ensures in
+    drew_in a.w.now a.out.now _ draw-words a.bytes.now _ part_at _ _ (λ i. elements (word_at i) (word-at2 i) (word-at3 i))
+    c.draw_elements_from_guest.ensures

@@ -1,0 +1,34 @@
+-- `records::make_array` meets its contract: each arm makes the call of its row.
+use mathlib.Core.Path.{ap}
+use Rattle.context.specs.Calls.{object, array}
+use Rattle.list_records.specs.Encoding.{array_call_of, array_rows}
+use Rattle.number.proofs.Tables.{last_row}
+use Rattle.list_records.proofs.Records.{does_is}
+use borrow.Author.Rules.{rules}
+use Rattle.list_records.proofs.make_array.Goals as goal
+
+pub returns-in-48 : goal.returns-in-48
+unfolding array_call_of
+returns-in-48 c = rw c.in-48.is c.set_vertex_pointer.ensures
+
+pub returns-in-49 : goal.returns-in-49
+unfolding array_call_of
+returns-in-49 c = rw c.in-49.is c.set_color_pointer.ensures
+
+pub returns-in-50 : goal.returns-in-50
+unfolding array_call_of
+returns-in-50 c = rw c.in-50.is c.set_normal_pointer.ensures
+
+pub returns-in-51 : goal.returns-in-51
+unfolding array_call_of
+returns-in-51 c = rw c.in-51.is c.set_texcoord_pointer.ensures
+
+pub returns-in-52 : goal.returns-in-52
+unfolding array_call_of
+returns-in-52 c = rw c.in-52.is c.set_client_state.ensures
+
+pub returns-in_default : goal.returns-in_default
+unfolding array_call_of
+returns-in_default c =
+    let a = c.args in
+    does_is (ap (λ k. object (array k)) (last_row (array_rows a.a a.b a.d a.e) _ _ c.in_default.in_default-own.rest)) c.set_client_active_texture.ensures

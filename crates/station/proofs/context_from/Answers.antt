@@ -1,0 +1,5 @@
+use borrow.Author.Rules.{rules}
+use Rattle.station.proofs.context_from.Goals as goal
+
+pub returns : goal.returns
+returns c = rw (c.mode_from.ensures, c.settings_from.ensures)

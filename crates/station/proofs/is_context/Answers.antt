@@ -1,0 +1,10 @@
+use borrow.Author.Tests.{not-true, not-false}
+use Rattle.station.proofs.Parts.{refuses, both}
+use borrow.Author.Rules.{rules}
+use Rattle.station.proofs.is_context.Goals as goal
+
+pub returns-then-not-is_mode : goal.returns-then-not-is_mode
+returns-then-not-is_mode c = refuses c.is_mode.ensures (not-true _ c.if-not-is_mode.true) (λ h. h.0)
+
+pub returns : goal.returns
+returns c = both (c.is_mode.ensures.yes (not-false _ c.if-not-is_mode.false)) c.are_settings.ensures

@@ -1,0 +1,5 @@
+use borrow.Author.Rules.{rules}
+use Rattle.station.proofs.kept_unit.Goals as goal
+
+pub returns : goal.returns
+returns c = rw c.env_code.ensures

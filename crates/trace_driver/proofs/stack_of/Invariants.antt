@@ -1,0 +1,16 @@
+use mathlib.Core.Path.{◌≡◌, refl, ap, ◌∙◌}
+use Prim.Native.Nat.{◌-◌, ◌≤◌}
+use native.Mathlib.Omega.{arith}
+use mathlib.Core.List.{append-nil}
+use lib.ListN.{replicate}
+use Rattle.stack.specs.Stack.{limit, no_matrix}
+use Rattle.trace_format.specs.Fill.{tabulate}
+use Rattle.trace_format.proofs.Filling.{filled_to, fill_step}
+use Rattle.trace_driver.specs.Stacks.{saved_at}
+use Rattle.trace_driver.proofs.stack_of.Given as goal
+
+abbrev pub invariant-loop-k : goal.invariant-loop-k
+invariant-loop-k l = (l.k ≤ limit) × (l.saved ≡ filled_to (saved_at l.w) l.k (replicate limit l.current))
+
+abbrev pub decreases-loop-k : goal.decreases-loop-k
+decreases-loop-k l = limit - l.k

@@ -1,0 +1,29 @@
+-- `reader::read_record` meets its contract.
+use borrow.Author.Tests.{not-false}
+use Rattle.trace_reader.proofs.Going.{stopped, read_from}
+use Rattle.trace_reader.proofs.Reading.{words_read_law}
+use borrow.Author.Rules.{rules}
+use Rattle.trace_reader.proofs.read_record.Goals as goal
+
+pub returns-then-got-eq0 : goal.returns-then-got-eq0
+returns-then-got-eq0 c = stopped _ c.none.ensures
+
+pub returns-then-got-lt8 : goal.returns-then-got-lt8
+returns-then-got-lt8 c = stopped _ c.stop.ensures
+
+pub returns-then-n-gt-MAX_WORDS : goal.returns-then-n-gt-MAX_WORDS
+returns-then-n-gt-MAX_WORDS c = stopped _ c.stop-then-n-gt-MAX_WORDS.ensures
+
+pub returns-then-not-read_body : goal.returns-then-not-read_body
+returns-then-not-read_body c = stopped _ c.stop-then-not-read_body.ensures
+
+pub returns : goal.returns
+returns c =
+    let w = c.before.args.w.now in
+    let n = c.Opening-of.result.n in
+    let read-body = c.read-body in
+    let if4 = c.if4.false in
+    let fits = read-body.ensures (not-false read-body.result if4) in
+    let bytes-at = c.bytes-at.ensures in
+    let read-words = c.read-words.ensures in
+    λ g. read_from n _ w _ fits (words_read_law _ w n fits bytes-at read-words) c.first_words.ensures (c.checked.ensures g)

@@ -1,0 +1,10 @@
+-- `make_draw` meets its contract.
+use mathlib.Core.Path.{refl}
+use borrow.Author.Rules.{rules}
+use Rattle.trace_session.proofs.make_draw.Goals as goal
+
+pub returns : goal.returns
+returns c =
+    let mark = c.mark.ensures in
+    let draw = c.draw.ensures in
+    record { reply = _; did = rw mark at draw; context = refl }

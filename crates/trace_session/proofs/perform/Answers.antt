@@ -1,0 +1,43 @@
+-- `perform` meets its contract. It lends parts of the store and of the output, held within them.
+use mathlib.Core.Logic.{⊎_elim}
+use native.Mathlib.Omega.{arith}
+use Rattle.list_words.specs.Words.{word_at}
+use Rattle.list_words.proofs.Words.{held_count}
+use Rattle.trace_session.proofs.Done.{drawn, called, others}
+use borrow.Author.Rules.{rules}
+use Rattle.trace_session.proofs.perform.Goals as goal
+
+pub slice_bounds-make_draw-end-then-code-ge96 : goal.slice_bounds-make_draw-end-then-code-ge96
+slice_bounds-make_draw-end-then-code-ge96 c =
+    let a = c.before.args in
+    let room_of = c.room_of.ensures in
+    held_count a.out.now (word_at a.w.now 2) _ room_of
+
+pub slice_bounds-make_call-end-then-code-ge16 : goal.slice_bounds-make_call-end-then-code-ge16
+slice_bounds-make_call-end-then-code-ge16 c =
+    let a = c.args in
+    held_count a.store.now a.v.store _ c.smaller-end.ensures
+
+pub returns-then-code-ge96 : goal.returns-then-code-ge96
+returns-then-code-ge96 c =
+    let if1 = c.if1.true in
+    let if2 = c.if2.true in
+    let room_of = c.room_of.ensures in
+    let bytes-at = c.bytes-at.ensures in
+    let bytes-at2 = c.bytes_at-then-code-ge96.ensures in
+    drawn _ _ _ _ _ _ _ _ _ _ room_of bytes-at bytes-at2 if2 if1 c.make_draw.ensures
+
+pub returns-then-code-ge16 : goal.returns-then-code-ge16
+returns-then-code-ge16 c =
+    let if2 = c.if-code-ge96.false in
+    let if3 = c.if-code-ge16.true in
+    let smaller = c.smaller-end.ensures in
+    let make-call = c.make_call.ensures in
+    called _ _ _ _ _ _ _ _ smaller if3 if2 make-call
+
+pub returns : goal.returns
+returns c =
+    let if1 = c.if1.branch in
+    let fill-areas = c.fill-areas.ensures in
+    others _ _ _ _ _ _ _ (λ h. ⊎_elim (λ p. p.2.left) (λ q. absurd (omega (arith, q.left, h))) if1) c.word_at.ensures
+    c.inspect.ensures fill-areas.0 fill-areas.1

@@ -1,0 +1,29 @@
+-- `text::put_floats` meets its contract: what is still to be put after i of them.
+use mathlib.Core.Path.{◌≡◌, refl, sym, ap, ◌∙◌}
+use mathlib.Core.List.{foldl}
+use Prim.Native.Nat.{ℕ, ◌-◌, ◌≤◌}
+use native.Mathlib.Omega.{arith}
+use lib.ListN.{length, drop, drop_of_length-le}
+use Rattle.io.proofs.Counting.{prefix_len_of_le}
+use Rattle.trace_text.specs.Text.{page, put_float, put_each}
+use Rattle.trace_text.proofs.Laws.{put_next}
+use borrow.Author.Rules.{rules}
+use Rattle.trace_text.proofs.put_floats.Goals as goal
+
+pub loop-i-init : goal.loop-i-init
+loop-i-init c =
+    let a = c.args in
+    (omega arith, omega arith, refl, ap (λ (s : ℕ). foldl put_float (page a.area.now s) a.words.now) c.start_of-place.ensures)
+
+pub loop-i-preserved : goal.loop-i-preserved
+loop-i-preserved c =
+    let a = c.args in
+    let l = c.loop-i in
+    let p = c.put_float-place in
+    (omega arith, p.ensures.0.0, omega arith, put_next put_float (page l.area l.place) _ a.words.now l.i _ (omega arith) p.ensures.1 ∙ l.invariant.3)
+
+pub returns : goal.returns
+returns c =
+    let a = c.args in
+    let l = c.loop-i in
+    (prefix_len_of_le _ _ l.invariant.1, ap (foldl put_float (page l.area l.place)) (sym (drop_of_length-le a.words.now {i = l.i} (omega arith))) ∙ l.invariant.3)

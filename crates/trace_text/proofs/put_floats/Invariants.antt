@@ -1,0 +1,17 @@
+use mathlib.Core.Path.{◌≡◌, refl, sym, ap, ◌∙◌}
+use mathlib.Core.List.{foldl}
+use Prim.Native.Nat.{ℕ, ◌-◌, ◌≤◌}
+use native.Mathlib.Omega.{arith}
+use lib.ListN.{length, drop, drop_of_length-le}
+use Rattle.io.proofs.Counting.{prefix_len_of_le}
+use Rattle.trace_text.specs.Text.{page, put_float, put_each}
+use Rattle.trace_text.proofs.Laws.{put_next}
+use borrow.Author.Rules.{rules}
+use Rattle.trace_text.proofs.put_floats.Given as goal
+
+abbrev pub invariant-loop-i : goal.invariant-loop-i
+invariant-loop-i l =
+    (l.i ≤ length l.words) × (l.place ≤ length l.area) × (length l.area ≡ length l.initial.area) × (foldl put_float (page l.area l.place) (drop l.i l.words) ≡ put_each put_float (page l.initial.area l.at) l.words)
+
+abbrev pub decreases-loop-i : goal.decreases-loop-i
+decreases-loop-i l = length l.words - l.i

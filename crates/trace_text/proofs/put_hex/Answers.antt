@@ -1,0 +1,11 @@
+-- `text::put_hex` meets its contract.
+use mathlib.Core.Path.{ap, ◌∙◌}
+use Rattle.trace_text.specs.Text.{page, put_text}
+use borrow.Author.Rules.{rules}
+use Rattle.trace_text.proofs.put_hex.Goals as goal
+
+pub returns : goal.returns
+returns c =
+    let a = c.args in
+    let p = c.put.ensures in
+    (p.0, p.1 ∙ ap (put_text (page a.area.now a.at)) c.hex_digits-text.ensures)
