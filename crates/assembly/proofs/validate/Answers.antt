@@ -6,24 +6,24 @@ use borrow.Author.Rules.{rules}
 use Rattle.assembly.proofs.validate.Goals as goal
 
 pub returns-then-not-has_vertices : goal.returns-then-not-has_vertices
-returns-then-not-has_vertices c = no_vertices _ _ _ (sym c.has_vertices.ensures ∙ not-true _ c.if-not-has_vertices.true)
+returns-then-not-has_vertices c = no_vertices _ _ _ (sym c.has_vertices.ensures ∙ c.if-not-has_vertices.true)
 
 pub returns-then-place-n : goal.returns-then-place-n
 returns-then-place-n c =
-    no_position _ _ _ (sym c.has_vertices.ensures ∙ not-false _ c.if-not-has_vertices.false) _ c.index_count-n.ensures _ c.first_failing-place.ensures
+    no_position _ _ _ (sym c.has_vertices.ensures ∙ c.if-not-has_vertices.false) _ c.index_count-n.ensures _ c.first_failing-place.ensures
     c.if-place-n.true _ c.position_number_at.ensures
 
 pub returns-then-mode-gt6 : goal.returns-then-mode-gt6
 returns-then-mode-gt6 c =
-    no_mode _ _ _ (sym c.has_vertices.ensures ∙ not-false _ c.if-not-has_vertices.false) _ c.index_count-n.ensures _ c.first_failing-place.ensures
+    no_mode _ _ _ (sym c.has_vertices.ensures ∙ c.if-not-has_vertices.false) _ c.index_count-n.ensures _ c.first_failing-place.ensures
     c.if-place-n.false c.if-mode-gt6.true
 
 pub returns-then-mode-lt4 : goal.returns-then-mode-lt4
 returns-then-mode-lt4 c =
-    no_triangles _ _ _ (sym c.has_vertices.ensures ∙ not-false _ c.if-not-has_vertices.false) _ c.index_count-n.ensures _ c.first_failing-place.ensures
+    no_triangles _ _ _ (sym c.has_vertices.ensures ∙ c.if-not-has_vertices.false) _ c.index_count-n.ensures _ c.first_failing-place.ensures
     c.if-place-n.false c.if-mode-gt6.false c.if-mode-lt4.true
 
 pub returns : goal.returns
 returns c =
-    all_answered _ _ _ (sym c.has_vertices.ensures ∙ not-false _ c.if-not-has_vertices.false) _ c.index_count-n.ensures _ c.first_failing-place.ensures
+    all_answered _ _ _ (sym c.has_vertices.ensures ∙ c.if-not-has_vertices.false) _ c.index_count-n.ensures _ c.first_failing-place.ensures
     c.if-place-n.false c.if-mode-gt6.false c.if-mode-lt4.false

@@ -8,7 +8,7 @@ use Rattle.buffers.proofs.Uploads.{in_invalid, in_same, bound_slot, data_done}
 use Rattle.buffers.proofs.buffer_data.Goals as goal
 
 valid : (c : goal.Else-not-sound) → Sound c.args.b
-valid c = c.sound.ensures.decides.yes (not-false _ c.if-not-sound.false)
+valid c = c.sound.ensures.decides.yes c.if-not-sound.false
 
 bound : (c : goal.After-bound_name-name) →
     let args = c.args in
@@ -22,7 +22,7 @@ found c =
     omega (arith, c.find_slot-k.ensures, bound_slot _ (valid c) args.store.now args.target _ (bound c) c.if-name-eq0.false)
 
 pub returns-then-not-sound : goal.returns-then-not-sound
-returns-then-not-sound c = in_invalid _ _ _ (λ s e. c.sound.ensures.decides.no (not-true _ c.if-not-sound.true) s)
+returns-then-not-sound c = in_invalid _ _ _ (λ s e. c.sound.ensures.decides.no c.if-not-sound.true s)
 
 pub returns-then-store-ne-STORE_BYTES : goal.returns-then-store-ne-STORE_BYTES
 returns-then-store-ne-STORE_BYTES c = in_invalid _ _ _ (λ s. c.if-store-ne-STORE_BYTES.true)
@@ -30,20 +30,20 @@ returns-then-store-ne-STORE_BYTES c = in_invalid _ _ _ (λ s. c.if-store-ne-STOR
 pub returns-then-not-is_target : goal.returns-then-not-is_target
 unfolding data_answer
 returns-then-not-is_target c =
-    in_same _ _ _ (valid c) c.if-store-ne-STORE_BYTES.false 0x0500 (simp (data_answer, sym c.is_target.ensures ∙ not-true _ c.if-not-is_target.true))
+    in_same _ _ _ (valid c) c.if-store-ne-STORE_BYTES.false 0x0500 (simp (data_answer, sym c.is_target.ensures ∙ c.if-not-is_target.true))
 
 pub returns-then-name-eq0 : goal.returns-then-name-eq0
 unfolding data_answer
 returns-then-name-eq0 c =
     in_same _ _ _ (valid c) c.if-store-ne-STORE_BYTES.false 0x0502
-    (simp (data_answer, sym c.is_target.ensures ∙ not-false _ c.if-not-is_target.false, sym (bound c), eq-eqb _ _ c.if-name-eq0.true))
+    (simp (data_answer, sym c.is_target.ensures ∙ c.if-not-is_target.false, sym (bound c), eq-eqb _ _ c.if-name-eq0.true))
 
 pub returns-then-size-gt-SLOT_BYTES : goal.returns-then-size-gt-SLOT_BYTES
 unfolding data_answer
 returns-then-size-gt-SLOT_BYTES c =
     in_same _ _ _ (valid c) c.if-store-ne-STORE_BYTES.false 6 (simp (
       data_answer,
-      sym c.is_target.ensures ∙ not-false _ c.if-not-is_target.false,
+      sym c.is_target.ensures ∙ c.if-not-is_target.false,
       sym (bound c),
       ne_eqb _ _ c.if-name-eq0.false,
       lt-ltb 4096 _ c.if-size-gt-SLOT_BYTES.true,
@@ -61,4 +61,4 @@ set_slot-requires c = found c
 pub returns : goal.returns
 returns c =
     data_done _ _ _ _ (valid c) c.sound.ensures.slots c.if-store-ne-STORE_BYTES.false (bound c) c.if-name-eq0.false _ c.find_slot-k.ensures _ _
-    (sym c.is_target.ensures ∙ not-false _ c.if-not-is_target.false) c.if-size-gt-SLOT_BYTES.false _ c.set_slot.ensures _ c.write_padded.ensures
+    (sym c.is_target.ensures ∙ c.if-not-is_target.false) c.if-size-gt-SLOT_BYTES.false _ c.set_slot.ensures _ c.write_padded.ensures

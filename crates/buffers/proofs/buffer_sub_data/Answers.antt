@@ -9,7 +9,7 @@ use Rattle.buffers.proofs.Uploads.{in_invalid, in_same, bound_slot, slot_small, 
 use Rattle.buffers.proofs.buffer_sub_data.Goals as goal
 
 valid : (c : goal.Else-not-sound) → Sound c.args.b
-valid c = c.sound.ensures.decides.yes (not-false _ c.if-not-sound.false)
+valid c = c.sound.ensures.decides.yes c.if-not-sound.false
 
 bound : (c : goal.After-bound_name-name) →
     let args = c.args in
@@ -37,7 +37,7 @@ room c =
     )
 
 pub returns-then-not-sound : goal.returns-then-not-sound
-returns-then-not-sound c = in_invalid _ _ _ (λ s e. c.sound.ensures.decides.no (not-true _ c.if-not-sound.true) s)
+returns-then-not-sound c = in_invalid _ _ _ (λ s e. c.sound.ensures.decides.no c.if-not-sound.true s)
 
 pub returns-then-store-ne-STORE_BYTES : goal.returns-then-store-ne-STORE_BYTES
 returns-then-store-ne-STORE_BYTES c = in_invalid _ _ _ (λ s. c.if-store-ne-STORE_BYTES.true)

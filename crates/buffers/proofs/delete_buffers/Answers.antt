@@ -14,10 +14,10 @@ use Rattle.buffers.proofs.Removal.{delete_step, delete_end}
 use Rattle.buffers.proofs.delete_buffers.Goals as goal
 
 valid : (c : goal.Else-not-sound) → Sound c.args.b
-valid c = c.sound.ensures.decides.yes (not-false _ c.if-not-sound.false)
+valid c = c.sound.ensures.decides.yes c.if-not-sound.false
 
 pub returns-then-not-sound : goal.returns-then-not-sound
-returns-then-not-sound c = answers_unsound _ _ (c.sound.ensures.decides.no (not-true _ c.if-not-sound.true))
+returns-then-not-sound c = answers_unsound _ _ (c.sound.ensures.decides.no c.if-not-sound.true)
 
 pub loop-i-init : goal.loop-i-init
 loop-i-init c = (omega arith, λ s. refl, valid c, freed_same)

@@ -13,7 +13,7 @@ use Rattle.buffers.proofs.Generation.{Left, left_less, left_none, gen_full, gen_
 use Rattle.buffers.proofs.gen_buffers.Goals as goal
 
 valid : (c : goal.Else-not-sound) → Sound c.args.b
-valid c = c.sound.ensures.decides.yes (not-false _ c.if-not-sound.false)
+valid c = c.sound.ensures.decides.yes c.if-not-sound.false
 
 live : (c : goal.After-live_count-live) (s : List ℕ) → c.live_count-live.result ≡ live_names (objects c.args.b s)
 live c s = c.live_count-live.ensures.0 ∙ live_law c.args.b (valid c) s
@@ -24,7 +24,7 @@ few : (c : goal.Else-live-n-gt-SLOT_COUNT) (s : List ℕ) →
 few c s = omega (arith, live c s, c.if-live-n-gt-SLOT_COUNT.false)
 
 pub returns-then-not-sound : goal.returns-then-not-sound
-returns-then-not-sound c = record { answers = answers_unsound _ _ (c.sound.ensures.decides.no (not-true _ c.if-not-sound.true)); names = refl }
+returns-then-not-sound c = record { answers = answers_unsound _ _ (c.sound.ensures.decides.no c.if-not-sound.true); names = refl }
 
 pub returns-then-n-gt-SLOT_COUNT : goal.returns-then-n-gt-SLOT_COUNT
 returns-then-n-gt-SLOT_COUNT c = record { answers = answers_same _ _ (valid c) 4 (λ s. gen_full _ _ (omega arith)); names = refl }

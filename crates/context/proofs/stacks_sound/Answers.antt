@@ -6,12 +6,12 @@ use borrow.Author.Rules.{rules}
 use Rattle.context.proofs.stacks_sound.Goals as goal
 
 pub returns-then-not-is_sound : goal.returns-then-not-is_sound
-returns-then-not-is_sound c = some_unsound _ MatrixMode.Modelview (c.is_sound.ensures.no (not-true _ c.if-not-is_sound.true))
+returns-then-not-is_sound c = some_unsound _ MatrixMode.Modelview (c.is_sound.ensures.no c.if-not-is_sound.true)
 
 pub returns-then-not-is_sound-2 : goal.returns-then-not-is_sound-2
-returns-then-not-is_sound-2 c = some_unsound _ MatrixMode.Projection (c.is_sound-2.ensures.no (not-true _ c.if-not-is_sound-2.true))
+returns-then-not-is_sound-2 c = some_unsound _ MatrixMode.Projection (c.is_sound-2.ensures.no c.if-not-is_sound-2.true)
 
 pub returns : goal.returns
 returns c =
-    all_sound _ (c.is_sound.ensures.yes (not-false _ c.if-not-is_sound.false)) (c.is_sound-2.ensures.yes (not-false _ c.if-not-is_sound-2.false))
+    all_sound _ (c.is_sound.ensures.yes c.if-not-is_sound.false) (c.is_sound-2.ensures.yes c.if-not-is_sound-2.false)
     c.is_sound-3.ensures

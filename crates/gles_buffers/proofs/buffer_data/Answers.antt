@@ -6,8 +6,8 @@ use borrow.Author.Rules.{rules}
 use Rattle.gles_buffers.proofs.buffer_data.Goals as goal
 
 pub returns-then-not-is_sound_apart : goal.returns-then-not-is_sound_apart
-returns-then-not-is_sound_apart c = rw c.refuse.ensures (unsound_apart _ _ _ (c.is_sound_apart.ensures.no (not-true _ c.if-not-is_sound_apart.true)))
+returns-then-not-is_sound_apart c = rw c.refuse.ensures (unsound_apart _ _ _ (c.is_sound_apart.ensures.no c.if-not-is_sound_apart.true))
 
 pub returns : goal.returns
 returns c =
-    rw c.put_buffers.ensures (upload_did _ _ _ _ (c.is_sound_apart.ensures.yes (not-false _ c.if-not-is_sound_apart.false)) _ _ refl c.buffer_data.ensures)
+    rw c.put_buffers.ensures (upload_did _ _ _ _ (c.is_sound_apart.ensures.yes c.if-not-is_sound_apart.false) _ _ refl c.buffer_data.ensures)

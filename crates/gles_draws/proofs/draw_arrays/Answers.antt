@@ -5,9 +5,9 @@ use borrow.Author.Rules.{rules}
 use Rattle.gles_draws.proofs.draw_arrays.Goals as goal
 
 pub returns-then-not-is_ready : goal.returns-then-not-is_ready
-returns-then-not-is_ready c = draw_unready _ _ _ _ (c.is_ready.ensures.no (not-true _ c.if-not-is_ready.true))
+returns-then-not-is_ready c = draw_unready _ _ _ _ (c.is_ready.ensures.no c.if-not-is_ready.true)
 
 pub returns : goal.returns
 returns c =
     rw c.answer_draw.ensures
-    (draw_from_law _ _ _ _ _ _ _ _ _ _ _ c.draw_inputs-s.ensures (c.is_ready.ensures.yes (not-false _ c.if-not-is_ready.false)) (c.draw_range.ensures _))
+    (draw_from_law _ _ _ _ _ _ _ _ _ _ _ c.draw_inputs-s.ensures (c.is_ready.ensures.yes c.if-not-is_ready.false) (c.draw_range.ensures _))

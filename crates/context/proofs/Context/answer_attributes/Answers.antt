@@ -5,7 +5,7 @@ use borrow.Author.Rules.{rules}
 use Rattle.context.proofs.Context.answer_attributes.Goals as goal
 
 pub returns-then-not-is_sound : goal.returns-then-not-is_sound
-returns-then-not-is_sound c = rw c.refuse.ensures (settled_unsound (c.is_sound.ensures.no (not-true _ c.if-not-is_sound.true)))
+returns-then-not-is_sound c = rw c.refuse.ensures (settled_unsound (c.is_sound.ensures.no c.if-not-is_sound.true))
 
 pub returns : goal.returns
-returns c = settled (c.is_sound.ensures.yes (not-false _ c.if-not-is_sound.false)) (rw c.slot_after-error.ensures)
+returns c = settled (c.is_sound.ensures.yes c.if-not-is_sound.false) (rw c.slot_after-error.ensures)
