@@ -152,6 +152,9 @@ plain_of (fin false m e) a c h = tt
 
 held : (x : Float) → Plain x → x ≼ f1 → (clamped f_minus_1 f1 x ≡ x) × (clamped f_minus_1 f1 (neg x) ≡ neg x)
 unfolding of_bits neg lt le
+held nan p h = elim p [ ]
+held (inf _) p h = elim p [ ]
+held (fin true m e) p h = elim p [ ]
 held (fin false m e) p h =
     let within : ltb (1 * down e) (m * up e * 1) ≡ false = le-ltb (1 * down e) (m * up e * 1) (lt_or_eq (m * up e * 1) (1 * down e) h) in
     (rw within, rw within)
@@ -174,6 +177,12 @@ held_low (fin false m e) t h =
 -- the order of opposites, and of one opposite
 turned : (x y : Float) → Plain x → Plain y → x ≼ y → neg y ≼ neg x
 unfolding neg le
+turned nan y p q h = elim p [ ]
+turned (inf _) y p q h = elim p [ ]
+turned (fin true m e) y p q h = elim p [ ]
+turned (fin false m e) nan p q h = elim q [ ]
+turned (fin false m e) (inf _) p q h = elim q [ ]
+turned (fin false m e) (fin true n d) p q h = elim q [ ]
 turned (fin false m e) (fin false n d) p q h = or_equal (m * up e * down d) (n * up d * down e) (lt_or_eq (m * up e * down d) (n * up d * down e) h)
   where
     or_equal : (a b : ℕ) → a ≤ b → T (ltb a b || (eqb b a && true))
@@ -181,6 +190,12 @@ turned (fin false m e) (fin false n d) p q h = or_equal (m * up e * down d) (n *
 
 parted : (x y : Float) → Plain x → Plain y → neg x ≼ y
 unfolding neg le
+parted nan y p q = elim p [ ]
+parted (inf _) y p q = elim p [ ]
+parted (fin true m e) y p q = elim p [ ]
+parted (fin false m e) nan p q = elim q [ ]
+parted (fin false m e) (inf _) p q = elim q [ ]
+parted (fin false m e) (fin true n d) p q = elim q [ ]
 parted (fin false m e) (fin false n d) p q = either_side (m * up e * down d) (n * up d * down e)
   where
     either_side : (a b : ℕ) → T (ltb 0 (a + b) || (eqb a b && (false || eqb a 0)))

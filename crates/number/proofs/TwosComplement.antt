@@ -1,10 +1,10 @@
 -- Two's complement at any width. Assumes nothing.
-use Rattle.std.proofs.Common.{◌≡◌, ℕ, zero, suc, ◌+◌, ◌-◌, ◌*◌, ◌^◌, ◌<◌, ◌≤◌, Bool, true, false, cond, ltb, ℤ, pos, negsuc, ◌+ℤ◌, ◌-ℤ◌, ◌≤ℤ◌, sym, refl, ap, ◌∙◌, zero-add, arith, le→leb, SFits, to_z, of_z, ltb-false, ltb-true, le-ltb, lt-ltb}
+use Rattle.std.proofs.Common.{◌≡◌, ℕ, zero, suc, ◌-◌, ◌*◌, ◌^◌, ◌<◌, ◌≤◌, Bool, true, false, cond, ltb, pos, negsuc, ◌+ℤ◌, ◌-ℤ◌, ◌≤ℤ◌, refl, ap, ◌∙◌, zero-add, arith, le→leb, SFits, to_z, of_z, ltb-false, ltb-true, le-ltb, lt-ltb}
 use mathlib.Core.Path.{subst⁻¹}
 use mir.Syntax.{Width}
 use mir.Val.{hbits}
 use mir.ValLaws.{to_z-of_z}
-use Rattle.number.specs.Numbers.{signed_at, signed_of}
+use Rattle.number.specs.Numbers.{signed_at}
 
 -- The law for every width: below the half a number stands for itself, and from the half on for the number that is 2 * half less.
 pub twos_complement : (half n : ℕ) → n < 2 * half → (n < half → signed_at half n ≡ pos n) × (half ≤ n → signed_at half n +ℤ pos (2 * half) ≡ pos n)

@@ -1,5 +1,5 @@
 -- Worked examples as theorems about the definitions.
-use Rattle.std.specs.Prelude.{◌≡◌, List, [], ◌∷◌, negsuc, refl}
+use Rattle.std.specs.Prelude.{◌≡◌, [], ◌∷◌, negsuc, refl}
 use Rattle.std.specs.Float.{binary32}
 use Rattle.std.specs.Float.Ieee.{of_bits, to_unsigned}
 use Rattle.number.specs.Numbers.{magnitude, whole_part, little_endian, signed_of}

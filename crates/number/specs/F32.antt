@@ -1,5 +1,5 @@
 -- f32 operations by short names, and the constants that the formulas use. Each operation rounds once, to nearest, ties to even.
-use Rattle.std.specs.Prelude.{ℕ, ℤ, pos, from_bits, Float}
+use Rattle.std.specs.Prelude.{ℤ, from_bits, Float}
 use Rattle.std.specs.Float.Ieee as Ieee
 use Rattle.std.specs.Float.{binary32}
 use Rattle.std.specs.Float.Ieee.{of_int, neg}

@@ -1,5 +1,5 @@
 -- `number::abs` meets its contract: the bit pattern without its sign bit.
-use Rattle.std.proofs.Common.{ℕ, ◌%◌, ◌^◌, T, sym, ap, ◌∙◌, subst, rules}
+use Rattle.std.proofs.Common.{ℕ, ◌%◌, ◌^◌, T, sym, ap, ◌∙◌, subst}
 use lib.Ieee.{binary32, of_bits, to_bits}
 use lib.Ieee.Bits.{of_bits-to_bits}
 use Rattle.number.specs.Numbers.{magnitude}

@@ -1,5 +1,5 @@
 -- `number::fixed_to_f32` meets its contract: `std` gives the nearest f32, of the number that the machine reads back from v's bits, which is v.
-use Rattle.std.proofs.Common.{◌≡◌, pos, refl, w32, rules}
+use Rattle.std.proofs.Common.{◌≡◌, pos, refl, w32}
 use lib.Ieee.{binary32, of_bits, of_int}
 use mir.ValLaws.{to_z-of_z}
 use Rattle.number.proofs.fixed_to_f32.Goals as goal

@@ -1,5 +1,5 @@
 -- `number::signed32` meets its contract, by the law of two's complement at its width.
-use Rattle.std.proofs.Common.{◌-◌, arith, w32, rules}
+use Rattle.std.proofs.Common.{◌-◌, arith, w32}
 use Rattle.number.proofs.TwosComplement.{flipped_fits, negative}
 use Rattle.number.proofs.signed32.Goals as goal
 

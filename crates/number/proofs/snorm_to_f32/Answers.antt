@@ -1,5 +1,5 @@
 -- `number::snorm_to_f32` meets its contract: the callees' contracts, one after the other.
-use Rattle.std.proofs.Common.{w16, rules}
+use Rattle.std.proofs.Common.{w16}
 use mir.ValLaws.{to_z-of_z}
 use Rattle.number.proofs.snorm_to_f32.Goals as goal
 

@@ -1,5 +1,4 @@
 -- `number::unorm_to_f32` meets its contract: the callees' contracts, one after the other.
-use Rattle.std.proofs.Common.{rules}
 use Rattle.number.proofs.unorm_to_f32.Goals as goal
 
 pub returns : goal.returns

@@ -7,7 +7,7 @@ use Rattle.number.proofs.whole_u32.Goals as goal
 
 pub truncating_f32_to_u64-requires : goal.truncating_f32_to_u64-requires
 unfolding of_bits neg
-truncating_f32_to_u64-requires c = (subst T (sym c.if-x.true) tt, below_more c.args.x c.if-x-2.true)
+truncating_f32_to_u64-requires c = record { lower_bound = subst T (sym c.if-x.true) tt; upper_bound = below_more c.args.x c.if-x-2.true }
 
 pub overflow_cast-result : goal.overflow_cast-result
 unfolding of_bits
