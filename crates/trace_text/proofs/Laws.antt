@@ -1,14 +1,16 @@
 -- Laws of the definitions in specs/Text.antt.
+use Rattle.std.proofs.Common.{append_assoc}
 use Prim.Native.Nat.{ℕ, zero, suc, ◌+◌, ◌-◌, ◌*◌, ◌/◌, ◌%◌, ◌^◌, ◌<◌, ◌≤◌, min}
-use mathlib.Core.List.{List, [], ◌∷◌, foldl}
+use mathlib.Core.List.{List, [], ◌∷◌, ◌++◌, foldl}
 use mathlib.Core.Path.{◌≡◌, refl, sym, ◌∙◌}
 use native.Mathlib.Nat.{div-div-eq-div-mul, div-lt_iff_lt-mul, le-div_iff_mul-le, div-lt_self, mod-eq_of_lt, pow-suc, one-le-pow, pow-le-pow_right, le_of_suc-le-suc, lt_of_not-le}
 use native.Mathlib.Numerals.{add-one}
 use native.Mathlib.Omega.{arith}
 use borrow.Author.Tests.{lt-ltb, le-ltb, le-leb, lt-leb}
 use lib.Ieee.{Float, nan, inf, fin, binary32, is_nan, to_bits}
-use lib.ListN.{length, take, drop, get_or}
-use lib.Seq.{drop-cons, take_at}
+use lib.ListN.{length, take, drop, get_or, length-append, length-take, length-drop}
+use lib.Seq.{drop-cons, drop-drop, take_at}
+use borrow.Rule.Slice.PartMut.{put_mid}
 use Rattle.io.specs.Digits.{hex_digit_ascii, last_digits, IsDigitCount}
 use Rattle.number.specs.Bytes.{overwrite}
 use Rattle.trace_text.specs.Text.{Page, page, put_text, put_held, decimal_in, decimal, hex, shown_bits, put_float}
@@ -50,6 +52,18 @@ module _ (bytes : List ℕ) (at : ℕ) (text : List ℕ) (start : ℕ) (held_at 
   pub put_full : length bytes - start < length text → page bytes start ≡ put_text (page bytes at) text
   unfolding put_held
   put_full h = rw (← held_at, lt-leb (start + length text) (length bytes) (omega arith))
+
+-- the text as the part of the bytes that it goes into
+pub placed : (bytes : List ℕ) (start : ℕ) (text part : List ℕ) → part ≡ text → put_mid start (start + length text - start) bytes part ≡ overwrite bytes start text
+unfolding overwrite
+placed bytes start text part e =
+    let whole : start + length text - start ≡ length text = omega arith in
+    rw (e, whole, drop-drop) (sym (append_assoc (take start bytes) text (drop (start + length text) bytes)))
+
+pub longer : (bytes : List ℕ) (start : ℕ) (text : List ℕ) → start + length text ≤ length bytes → length (overwrite bytes start text) ≡ length bytes
+unfolding overwrite
+longer bytes start text fits =
+    omega (arith, length-append (take start bytes ++ text) (drop (start + length text) bytes), length-append (take start bytes) text, length-take start bytes, length-drop (start + length text) bytes)
 
 -- a text put behind a first byte
 pub behind : (b : ℕ) (rest text after : List ℕ) (end : ℕ) → length text ≤ length rest → page after end ≡ put_text (page (b ∷ rest) 1) text → take end after ≡ b ∷ text

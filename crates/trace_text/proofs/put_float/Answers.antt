@@ -13,4 +13,7 @@ returns c =
     let p = c.put.ensures in
     let h = c.hex_digits-h in
     let b = c.shown_bits in
-    (p.0, p.1 ∙ ap (λ (l : List ℕ). put_text (page a.area.now a.at) (spaced l)) (eight h.result b.result h.ensures ∙ ap hex b.ensures))
+    record {
+      prefix_len = p.prefix_len;
+      result_after = p.result_after ∙ ap (λ (l : List ℕ). put_text (page a.area.now a.at) (spaced l)) (eight h.result b.result h.ensures ∙ ap hex b.ensures);
+    }

@@ -20,10 +20,13 @@ loop-i-preserved c =
     let a = c.args in
     let l = c.loop-i in
     let p = c.put_float-place in
-    (omega arith, p.ensures.0.0, omega arith, put_next put_float (page l.area l.place) _ a.words.now l.i _ (omega arith) p.ensures.1 ∙ l.invariant.3)
+    (omega arith, p.ensures.prefix_len.0, omega arith, put_next put_float (page l.area l.place) _ a.words.now l.i _ (omega arith) p.ensures.result_after ∙ l.invariant.3)
 
 pub returns : goal.returns
 returns c =
     let a = c.args in
     let l = c.loop-i in
-    (prefix_len_of_le _ _ l.invariant.1, ap (foldl put_float (page l.area l.place)) (sym (drop_of_length-le a.words.now {i = l.i} (omega arith))) ∙ l.invariant.3)
+    record {
+      prefix_len = prefix_len_of_le _ _ l.invariant.1;
+      result_after = ap (foldl put_float (page l.area l.place)) (sym (drop_of_length-le a.words.now {i = l.i} (omega arith))) ∙ l.invariant.3;
+    }

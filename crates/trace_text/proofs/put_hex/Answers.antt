@@ -8,4 +8,4 @@ pub returns : goal.returns
 returns c =
     let a = c.args in
     let p = c.put.ensures in
-    (p.0, p.1 ∙ ap (put_text (page a.area.now a.at)) c.hex_digits-text.ensures)
+    record { prefix_len = p.prefix_len; result_after = p.result_after ∙ ap (put_text (page a.area.now a.at)) c.hex_digits-text.ensures }

@@ -14,6 +14,9 @@ returns c =
     let p = c.put.ensures in
     let q = c.put-end in
     let d = c.decimal-k in
-    let most : d.result ≤ 20 = few d.result a.n d.ensures.1.0 (omega (arith, c.ranges.n)) in
-    let digits = d.ensures.1.1 ∙ decimal_is d.result a.n d.ensures.1.0 in
-    (p.0, p.1 ∙ ap (put_text (page a.area.now a.at)) (behind 32 (replicate 20 32) _ _ q.result (omega arith) q.ensures.1 ∙ ap spaced digits))
+    let most : d.result ≤ 20 = few d.result a.n d.ensures.len (omega (arith, c.ranges.n)) in
+    let digits = d.ensures.digits ∙ decimal_is d.result a.n d.ensures.len in
+    record {
+      prefix_len = p.prefix_len;
+      result_after = p.result_after ∙ ap (put_text (page a.area.now a.at)) (behind 32 (replicate 20 32) _ _ q.result (omega arith) q.ensures.result_after ∙ ap spaced digits);
+    }
