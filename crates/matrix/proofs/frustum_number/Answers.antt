@@ -1,5 +1,4 @@
 -- `matrix::frustum_number` meets its contract: each return is the case that its tests say.
-use borrow.Author.Rules.{rules}
 use Rattle.matrix.proofs.frustum_number.Goals as goal
 
 pub returns-then-n : goal.returns-then-n

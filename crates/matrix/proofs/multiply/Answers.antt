@@ -2,7 +2,6 @@
 use mathlib.Core.Path.{◌≡◌}
 use mathlib.Core.List.{List, [], ◌∷◌}
 use lib.Ieee.{Float}
-use borrow.Author.Rules.{rules}
 use Rattle.matrix.specs.Matrix.{at, product}
 use Rattle.matrix.proofs.multiply.Goals as goal
 
