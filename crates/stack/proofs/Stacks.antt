@@ -1,18 +1,16 @@
 -- The stack's record follows the rules on what it stands for. Assumes nothing.
-use mathlib.Core.Path.{◌≡◌, refl, sym, ◌∙◌, ap}
+use mathlib.Core.Path.{◌≡◌, refl, sym, ◌∙◌}
 use mathlib.Core.Bool.{Bool, true, false, cond}
-use mathlib.Core.List.{List, [], ◌∷◌, ◌++◌}
-use Prim.Native.Nat.{ℕ, ◌+◌, ◌-◌, ◌≤◌, ◌<◌}
+use Prim.Native.Nat.{ℕ, ◌-◌, ◌<◌}
 use native.Mathlib.Nat.{le_of_lt}
 use native.Mathlib.Numerals.{add-one}
 use native.Mathlib.Omega.{arith}
 use borrow.Author.Tests.{lt-ltb, le-ltb, ltb-true, eqb-true}
 use lib.Dec.{ltb, eqb}
-use lib.ListN.{length, get_or, take, set, length-set}
+use lib.ListN.{length, length-set}
 use lib.Seq.{take-suc-set, length-take-le, get_or-take, take-take}
-use Rattle.stack.specs.Stack.{limit, Sound, MatrixCall, update, push, pop, stack_number, StackState, stack_state_of, fresh_stack_state, no_matrix, stack_effect}
+use Rattle.stack.specs.Stack.{limit, Sound, MatrixCall, update, push, pop, stack_number, stack_state_of, fresh_stack_state, no_matrix, stack_effect}
 use Rattle.stack.specs.Stack.{stack_step, stack_answered, changed, stack_answer, fresh_stack}
-use Rattle.stack.specs.declared.Matrix.{Matrix}
 use Rattle.stack.specs.declared.MatrixStack.{MatrixStack}
 use Rattle.stack.specs.declared.StackAnswer.{StackAnswer}
 

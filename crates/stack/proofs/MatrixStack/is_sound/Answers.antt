@@ -1,5 +1,4 @@
 -- `stack::MatrixStack::is_sound` meets its contract: the test is the definition's bound.
-use mathlib.Core.Bool.{true, false}
 use native.Mathlib.Omega.{arith}
 use borrow.Author.Rules.{rules}
 use borrow.Author.Tests.{leb-true, leb-false}

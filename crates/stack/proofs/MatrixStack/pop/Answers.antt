@@ -1,6 +1,5 @@
 -- `stack::MatrixStack::pop` meets its contract: each return is the case that its tests say.
 use native.Mathlib.Omega.{arith}
-use borrow.Author.Rules.{rules}
 use borrow.Author.Tests.{lt-ltb, le-ltb}
 use Rattle.stack.specs.Stack.{limit, stack_answer}
 use Rattle.stack.proofs.MatrixStack.pop.Goals as goal
