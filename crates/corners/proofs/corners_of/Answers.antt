@@ -2,7 +2,6 @@
 use mathlib.Core.Path.{refl}
 use native.Mathlib.Omega.{arith}
 use borrow.Author.Tests.{eq-eqb, ne_eqb}
-use borrow.Author.Rules.{rules}
 use Rattle.corners.proofs.corners_of.Goals as goal
 
 pub returns-then-t-ge-REACH : goal.returns-then-t-ge-REACH

@@ -1,6 +1,5 @@
 -- `corners::triangle_count` meets its contract: each arm is the case of the primitive.
 use native.Mathlib.Omega.{arith}
-use borrow.Author.Rules.{rules}
 use Rattle.corners.proofs.triangle_count.Goals as goal
 
 pub returns-in-Triangles : goal.returns-in-Triangles
