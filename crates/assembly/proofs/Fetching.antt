@@ -11,6 +11,8 @@ use Rattle.fetch.specs.declared.ArrayPointer.{ArrayPointer}
 use Rattle.fetch.specs.declared.Fetched.{Fetched}
 use Rattle.fetch.specs.declared.Vec4.{Vec4}
 use Rattle.vertex.specs.Scene.{Scene}
+use Rattle.vertex.specs.SceneCode.{scene_in}
+use Rattle.vertex.specs.declared.DrawInputs.{DrawInputs}
 use Rattle.vertex.specs.Vertex.{element_of, position_of}
 use Rattle.vertex.specs.Questions.{position_at}
 use Rattle.assembly.specs.ElementsCode.{location_of, Locates, PreparesFor}
@@ -22,10 +24,16 @@ module _ (s : Scene) (store : List ℕ) (e : Prepared) where
   pub own_array : {a : ArrayPointer} → PreparesFor s store a e → PreparesFor s store e.array e
   own_array h = subst (λ (a : ArrayPointer). PreparesFor s store a e) (sym h.array) h
 
-  pub located : PreparesFor s store e.array e → (index : ℕ) {l r : Location} → l ≡ location_of e index → l ≡ r
+  located : PreparesFor s store e.array e → (index : ℕ) {l r : Location} → l ≡ location_of e index → l ≡ r
       → Locates (element_of s e.array index) e.array (part_source e.array.buffer store s.guest) e.len r
   located h index el er =
       subst (Locates (element_of s e.array index) e.array (part_source e.array.buffer store s.guest) e.len) (sym el ∙ er) (h.element index)
+
+-- what is found agrees with the fetch
+pub found : (s : DrawInputs) (store guest : List ℕ) (e : Prepared) → PreparesFor (scene_in s store guest) store e.array e
+    → (index : ℕ) {l r : Location} → l ≡ location_of e index → l ≡ r
+    → Locates (element_of (scene_in s store guest) e.array index) e.array (part_source e.array.buffer store guest) e.len r
+found s store guest e h index el er = located (scene_in s store guest) store e h index el er
 
 pub components_are : (a : ArrayPointer) (normalize : Bool) {f : Fetched} {part bs : List ℕ} {v : Vec4}
     → v ≡ vector_of a.ty a.size normalize part → part ≡ bs → f ≡ Fetched.Components (vector_of a.ty a.size normalize bs) → Fetched.Components v ≡ f

@@ -8,9 +8,10 @@ use Rattle.fetch.specs.Decode.{component_bytes, component_of}
 use Rattle.assembly.proofs.Addresses.{below}
 use Rattle.assembly.proofs.Widths.{width_small, width_known, component_in}
 use Rattle.assembly.proofs.component_at.Goals as goal
+use Rattle.assembly.proofs.component_at.Goals.{After-component_bytes-width}
 
 -- the offset is small
-small : (c : goal.After-component_bytes-width) → c.component_bytes-width.result * c.args.i < 64
+small : (c : After-component_bytes-width) → c.component_bytes-width.result * c.args.i < 64
 small c =
     below 3 (omega (arith, c.component_bytes-width.ensures, width_small c.args.ty)) (omega (arith, c.requires))
 

@@ -32,28 +32,28 @@ returns-then-ty-eq5132 c =
     (rw (c.signed32.ensures, signed_read w32 0x8000_0000 c.args.n (omega arith) (omega arith)) at c.fixed_to_f32.ensures)
 
 -- a byte and a short are as wide as their types
-byte : (c : goal.Start) → c.args.ty ≡ 0x1400 → c.args.n < 256
+byte : (ty n : ℕ) → n < 256 ^ component_bytes ty → ty ≡ 0x1400 → n < 256
 unfolding component_bytes
-byte c e = rw e at c.requires
+byte ty n h e = rw e at h
 
-short : (c : goal.Start) → c.args.ty ≡ 0x1402 → c.args.n < 65536
+short : (ty n : ℕ) → n < 256 ^ component_bytes ty → ty ≡ 0x1402 → n < 65536
 unfolding component_bytes
-short c e = rw e at c.requires
+short ty n h e = rw e at h
 
 pub overflow_cast-low : goal.overflow_cast-low
 overflow_cast-low c = record { fits = narrow _ _ c.if-ty-eq5126.false c.if-ty-eq5132.false c.requires }
 
 pub signed16-requires : goal.signed16-requires
-signed16-requires c = (omega arith, byte c c.if-ty-eq5120.true)
+signed16-requires c = (omega arith, byte _ _ c.requires c.if-ty-eq5120.true)
 
 pub returns-then-ty-eq5120 : goal.returns-then-ty-eq5120
 unfolding component_of
 returns-then-ty-eq5120 c =
     simp (ne_eqb _ _ c.if-ty-eq5126.false, ne_eqb _ _ c.if-ty-eq5132.false, eq-eqb _ _ c.if-ty-eq5120.true)
-    (rw (c.signed16.ensures, signed_read w16 0x80 c.args.n (omega arith) (byte c c.if-ty-eq5120.true)) at c.signed_component.ensures)
+    (rw (c.signed16.ensures, signed_read w16 0x80 c.args.n (omega arith) (byte _ _ c.requires c.if-ty-eq5120.true)) at c.signed_component.ensures)
 
 pub signed16-requires-then-ty-eq5122 : goal.signed16-requires-then-ty-eq5122
-signed16-requires-then-ty-eq5122 c = (omega arith, short c c.if-ty-eq5122.true)
+signed16-requires-then-ty-eq5122 c = (omega arith, short _ _ c.requires c.if-ty-eq5122.true)
 
 pub returns-then-ty-eq5122 : goal.returns-then-ty-eq5122
 unfolding component_of
@@ -64,7 +64,7 @@ returns-then-ty-eq5122 c =
       ne_eqb _ _ c.if-ty-eq5120.false,
       eq-eqb _ _ c.if-ty-eq5122.true,
     )
-    (rw (c.signed16-then-ty-eq5122.ensures, signed_read w16 0x8000 c.args.n (omega arith) (short c c.if-ty-eq5122.true)) at c.signed_component-then-ty-eq5122.ensures)
+    (rw (c.signed16-then-ty-eq5122.ensures, signed_read w16 0x8000 c.args.n (omega arith) (short _ _ c.requires c.if-ty-eq5122.true)) at c.signed_component-then-ty-eq5122.ensures)
 
 pub returns-then-ty-eq5121 : goal.returns-then-ty-eq5121
 unfolding component_of

@@ -9,42 +9,34 @@ use Rattle.number.proofs.LittleEndian.{endian_part}
 use Rattle.assembly.proofs.Widths.{width_four}
 use Rattle.assembly.proofs.number_at.Goals as goal
 
--- each element of the slice is a byte
-bytes : (c : goal.After-shared_slice_known-1) (i : ℕ) → get_or c.args.s.now i 0 < 256
-bytes c i = omega (arith, c.shared_slice_known-1.given i)
-
--- what is left of the widths
-four : (c : goal.Else-width-eq2) → c.args.width ≡ 4
-four c = width_four _ c.requires.1 c.if-width-eq1.false c.if-width-eq2.false
-
 pub overflow_cast-result : goal.overflow_cast-result
-overflow_cast-result c = omega (arith, bytes c c.args.at)
+overflow_cast-result c = omega (arith, c.type_inv.s c.args.at)
 
 pub returns-then-width-eq1 : goal.returns-then-width-eq1
 returns-then-width-eq1 c =
     rw c.if-width-eq1.true
-    (endian_part 1 c.args.s.now c.args.at (omega (arith, c.requires.0, c.if-width-eq1.true)) (bytes c) _
+    (endian_part 1 c.args.s.now c.args.at (omega (arith, c.requires.0, c.if-width-eq1.true)) (λ i. omega (arith, c.type_inv.s i)) _
     (rw (add-zero c.args.at) (omega arith)))
 
 pub returns-then-width-eq2 : goal.returns-then-width-eq2
 returns-then-width-eq2 c =
     let two = c.if-width-eq2.true in
     rw two
-    (endian_part 2 c.args.s.now c.args.at (omega (arith, c.requires.0, two)) (bytes c) _ (rw (add-zero c.args.at) c.le16.ensures))
+    (endian_part 2 c.args.s.now c.args.at (omega (arith, c.requires.0, two)) (λ i. omega (arith, c.type_inv.s i)) _ (rw (add-zero c.args.at) c.le16.ensures))
 
 pub bounds-s-at-2 : goal.bounds-s-at-2
-bounds-s-at-2 c = omega (arith, four c)
+bounds-s-at-2 c = omega (arith, width_four _ c.requires.1 c.if-width-eq1.false c.if-width-eq2.false)
 
 pub bounds-s-at-3 : goal.bounds-s-at-3
-bounds-s-at-3 c = omega (arith, four c)
+bounds-s-at-3 c = omega (arith, width_four _ c.requires.1 c.if-width-eq1.false c.if-width-eq2.false)
 
 pub bounds-s-at-4 : goal.bounds-s-at-4
-bounds-s-at-4 c = omega (arith, four c)
+bounds-s-at-4 c = omega (arith, width_four _ c.requires.1 c.if-width-eq1.false c.if-width-eq2.false)
 
 pub bounds-s-at-5 : goal.bounds-s-at-5
-bounds-s-at-5 c = omega (arith, four c)
+bounds-s-at-5 c = omega (arith, width_four _ c.requires.1 c.if-width-eq1.false c.if-width-eq2.false)
 
 pub returns : goal.returns
 returns c =
-    rw (four c)
-    (endian_part 4 c.args.s.now c.args.at (omega (arith, c.requires.0, four c)) (bytes c) _ (rw (add-zero c.args.at) c.le32.ensures))
+    rw (width_four _ c.requires.1 c.if-width-eq1.false c.if-width-eq2.false)
+    (endian_part 4 c.args.s.now c.args.at (omega (arith, c.requires.0, width_four _ c.requires.1 c.if-width-eq1.false c.if-width-eq2.false)) (λ i. omega (arith, c.type_inv.s i)) _ (rw (add-zero c.args.at) c.le32.ensures))

@@ -34,13 +34,8 @@ signed_bytes-requires c = rw c.if-ty-eq5120.true at c.requires.0
 pub returns-then-ty-eq5120 : goal.returns-then-ty-eq5120
 returns-then-ty-eq5120 c = rw c.if-ty-eq5120.true c.signed_bytes.ensures
 
--- what is left of the types
-short : (c : goal.Else-ty-eq5120) → c.args.ty ≡ 0x1403
-short c =
-    last_type _ c.requires.1 c.if-ty-eq5126.false c.if-ty-eq5122.false c.if-ty-eq5121.false c.if-ty-eq5132.false c.if-ty-eq5120.false
-
 pub unsigned_shorts-requires : goal.unsigned_shorts-requires
-unsigned_shorts-requires c = rw (short c) at c.requires.0
+unsigned_shorts-requires c = rw (last_type _ c.requires.1 c.if-ty-eq5126.false c.if-ty-eq5122.false c.if-ty-eq5121.false c.if-ty-eq5132.false c.if-ty-eq5120.false) at c.requires.0
 
 pub returns : goal.returns
-returns c = rw (short c) c.unsigned_shorts.ensures
+returns c = rw (last_type _ c.requires.1 c.if-ty-eq5126.false c.if-ty-eq5122.false c.if-ty-eq5121.false c.if-ty-eq5132.false c.if-ty-eq5120.false) c.unsigned_shorts.ensures

@@ -16,10 +16,7 @@ use Rattle.assembly.specs.CornersCode.{corner_words}
 use Rattle.assembly.proofs.Written.{sets_then, length_corners, corners_more}
 use borrow.Author.Rules.{rules}
 use Rattle.assembly.proofs.write_planned.Goals as goal
-
--- the vertex of a corner
-abbrev corner : Scene → Primitive → List ℕ → ℕ → Vertex
-corner s p is q = vertex_at s is (corner_place p q)
+use Rattle.assembly.proofs.write_planned.Invariants.{corner}
 
 pub loop-c-init : goal.loop-c-init
 unfolding corner_words

@@ -16,6 +16,10 @@ use Rattle.assembly.proofs.Written.{sets_then, length_corners, corners_more}
 use borrow.Author.Rules.{rules}
 use Rattle.assembly.proofs.write_planned.Given as goal
 
+-- the vertex of a corner
+abbrev pub corner : Scene → Primitive → List ℕ → ℕ → Vertex
+corner s p is q = vertex_at s is (corner_place p q)
+
 abbrev pub invariant-loop-c : goal.invariant-loop-c
 invariant-loop-c l =
     (l.c ≤ l.n) × (l.out ≡ sets l.initial.out 0 (corner_words (corner (scene_in l.s l.store l.guest) l.p (index_list l.kind l.list l.elements)) l.c))
