@@ -8,13 +8,13 @@ use borrow.Author.Rules.{rules}
 use Rattle.vertex.proofs.byte_index.Goals as goal
 
 pub overflow_cast-result : goal.overflow_cast-result
-overflow_cast-result c = omega (arith, c.shared_slice_known-1.given c.args.i)
+overflow_cast-result c = omega (arith, c.type_inv.elements c.args.i)
 
 pub returns-then-i-elements : goal.returns-then-i-elements
 returns-then-i-elements c =
     let args = c.args in
     let bs = args.elements.now in
-    (endian_part 1 bs args.i (omega (arith, c.if-i-elements.true)) (λ i. omega (arith, c.shared_slice_known-1.given i)) _
+    (endian_part 1 bs args.i (omega (arith, c.if-i-elements.true)) (λ i. omega (arith, c.type_inv.elements i)) _
     (rw (add-zero args.i) (omega arith))).0
     ∙ sym (numbers_in 1 _ bs args.i args.i (omega arith) c.if-i-elements.true)
 

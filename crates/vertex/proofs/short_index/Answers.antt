@@ -11,7 +11,7 @@ use Rattle.vertex.proofs.short_index.Goals as goal
 pub returns-then-i-elements : goal.returns-then-i-elements
 returns-then-i-elements c =
     let bs = c.args.elements.now in
-    (endian_part 2 bs (2 * c.args.i) (omega (arith, c.if-i-elements.true)) (λ i. omega (arith, c.shared_slice_known-1.given i)) _
+    (endian_part 2 bs (2 * c.args.i) (omega (arith, c.if-i-elements.true)) (λ i. omega (arith, c.type_inv.elements i)) _
     (rw (add-zero (2 * c.args.i)) c.le16.ensures)).0
     ∙ sym (numbers_in 2 _ bs c.args.i (2 * c.args.i) (omega arith) c.if-i-elements.true)
 
