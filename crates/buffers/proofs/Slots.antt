@@ -10,7 +10,6 @@ use lib.Dec.{eqb, ltb}
 use lib.ListN.{length, get_or, take, drop, set}
 use lib.Seq.{get_or-set_same, get_or-set_other}
 use borrow.Author.Tests.{eqb-true, eqb-false, lt-ltb, le-ltb, eq-eqb, ne_eqb}
-use Rattle.buffers.specs.Bounded.{count}
 use Rattle.buffers.specs.Objects.{free_slot, name_at, slot_of, bytes_in_slot, contents_of, Live, Bindable, Sound}
 use Rattle.buffers.specs.ObjectsCode.{live_in}
 use Rattle.buffers.specs.declared.Slot.{Slot}

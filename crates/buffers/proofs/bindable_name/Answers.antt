@@ -1,5 +1,4 @@
 use mathlib.Core.Logic.{inl}
-use borrow.Author.Rules.{rules}
 use Rattle.buffers.proofs.Deciding.{holds, bindable_found}
 use Rattle.buffers.proofs.bindable_name.Goals as goal
 

@@ -1,12 +1,11 @@
 -- `buffers::clear_bytes` meets its contract: the bytes before i are zeroed.
-use Prim.Native.Nat.{ℕ, ◌+◌, ◌-◌, ◌≤◌}
+use Prim.Native.Nat.{ℕ, ◌+◌}
 use mathlib.Core.Path.{◌≡◌, refl, sym, ap, ◌∙◌}
 use mathlib.Core.List.{List}
 use native.Mathlib.Numerals.{add-one}
 use native.Mathlib.Omega.{arith}
-use lib.ListN.{length, set, length-set, get_or-eq_default}
+use lib.ListN.{set, length-set, get_or-eq_default}
 use lib.Seq.{paste, paste-suc}
-use borrow.Author.Rules.{rules}
 use Rattle.buffers.specs.Objects.{padded}
 use Rattle.buffers.proofs.Bytes.{length_padded, get_or_padded}
 use Rattle.buffers.proofs.clear_bytes.Goals as goal

@@ -1,26 +1,19 @@
 -- `delete_buffers` meets its contract: the names from i on are still to be deleted.
-use Prim.Native.Nat.{ℕ, ◌+◌, ◌-◌, ◌≤◌}
-use mathlib.Core.List.{List}
-use mathlib.Core.Path.{◌≡◌, refl, sym, ap, ◌∙◌}
+use Prim.Native.Nat.{◌+◌}
+use mathlib.Core.Path.{refl, sym, ap, ◌∙◌}
 use native.Mathlib.Omega.{arith}
-use borrow.Author.Rules.{rules}
-use borrow.Author.Tests.{not-true, not-false}
-use lib.ListN.{length, drop}
-use Rattle.buffers.specs.Objects.{objects, Sound, delete_names, answer}
-use Rattle.buffers.specs.ObjectsCode.{Freed}
+use lib.ListN.{drop}
+use Rattle.buffers.specs.Objects.{objects, delete_names, answer}
 use Rattle.buffers.proofs.Binding.{answers_unsound, answers_done}
 use Rattle.buffers.proofs.Free.{freed_same, freed_then, freed_free}
 use Rattle.buffers.proofs.Removal.{delete_step, delete_end}
 use Rattle.buffers.proofs.delete_buffers.Goals as goal
 
-valid : (c : goal.Else-not-sound) → Sound c.args.b
-valid c = c.sound.ensures.decides.yes c.if-not-sound.false
-
 pub returns-then-not-sound : goal.returns-then-not-sound
 returns-then-not-sound c = answers_unsound _ _ (c.sound.ensures.decides.no c.if-not-sound.true)
 
 pub loop-i-init : goal.loop-i-init
-loop-i-init c = (omega arith, λ s. refl, valid c, freed_same)
+loop-i-init c = (omega arith, λ s. refl, c.sound.ensures.decides.yes c.if-not-sound.false, freed_same)
 
 pub delete_name-out-requires : goal.delete_name-out-requires
 delete_name-out-requires c = c.loop-i.invariant.2
@@ -44,7 +37,7 @@ loop-i-preserved c =
 
 pub returns : goal.returns
 returns c =
-    answers_done _ _ (valid c) _
+    answers_done _ _ (c.sound.ensures.decides.yes c.if-not-sound.false) _
     (λ s. ap (answer 0)
     (sym (delete_end c.args.names.now c.loop-i.i (objects c.loop-i.out s) c.loop-i-test.false) ∙ c.loop-i.invariant.1 s))
     c.loop-i.invariant.2 (freed_free c.loop-i.invariant.3)

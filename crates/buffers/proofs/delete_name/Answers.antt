@@ -1,7 +1,5 @@
 use mathlib.Core.Path.{refl}
-use lib.ListN.{length-map}
 use Rattle.buffers.proofs.Removal.{skip_zero, skip_unknown, deleted}
-use borrow.Author.Rules.{rules}
 use Rattle.buffers.proofs.delete_name.Goals as goal
 
 pub returns-then-name-eq0 : goal.returns-then-name-eq0
@@ -12,5 +10,5 @@ returns-then-k-ge-SLOT_COUNT c = skip_unknown _ _ c.requires c.if-name-eq0.false
 
 pub returns : goal.returns
 returns c =
-    deleted _ _ c.requires c.if-name-eq0.false _ c.find_slot-k.ensures (rw length-map at c.well_formed.0.1.1.0.1.0.1) c.if-k-ge-SLOT_COUNT.false _ refl _ _
+    deleted _ _ c.requires c.if-name-eq0.false _ c.find_slot-k.ensures (c.well_formed.0.1.1.0.1.0.1) c.if-k-ge-SLOT_COUNT.false _ refl _ _
     c.cleared-array.ensures c.cleared-element.ensures

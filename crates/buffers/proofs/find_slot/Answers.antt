@@ -1,14 +1,11 @@
 -- `find_slot` meets its contract: no slot before k has the name.
-use Prim.Native.Nat.{ℕ, ◌≤◌, ◌<◌, ◌-◌}
 use mathlib.Core.Path.{◌≡◌, sym, ◌∙◌}
-use mathlib.Core.Bool.{false}
 use native.Mathlib.Omega.{arith}
 use borrow.Author.Rules.{rules}
 use borrow.Author.Count.{below_more}
 use borrow.Author.Tests.{eq-eqb, ne_eqb}
-use lib.Dec.{eqb}
 use Rattle.buffers.proofs.Bounds.{first_is, first_none}
-use Rattle.buffers.specs.Objects.{name_at, slot_of}
+use Rattle.buffers.specs.Objects.{slot_of}
 use Rattle.buffers.proofs.find_slot.Goals as goal
 
 pub loop-k-init : goal.loop-k-init

@@ -1,13 +1,8 @@
 use Prim.Native.Nat.{ℕ, ◌≤◌, ◌<◌, ◌-◌}
-use mathlib.Core.Path.{◌≡◌, sym, ◌∙◌}
+use mathlib.Core.Path.{◌≡◌}
 use mathlib.Core.Bool.{false}
-use native.Mathlib.Omega.{arith}
-use borrow.Author.Rules.{rules}
-use borrow.Author.Count.{below_more}
-use borrow.Author.Tests.{eq-eqb, ne_eqb}
 use lib.Dec.{eqb}
-use Rattle.buffers.proofs.Bounds.{first_is, first_none}
-use Rattle.buffers.specs.Objects.{name_at, slot_of}
+use Rattle.buffers.specs.Objects.{name_at}
 use Rattle.buffers.proofs.find_slot.Given as goal
 
 abbrev pub invariant-loop-k : goal.invariant-loop-k

@@ -1,6 +1,4 @@
-use lib.ListN.{length-map}
 use Rattle.buffers.proofs.Naming.{made_zero, made_live, made_full, made_new}
-use borrow.Author.Rules.{rules}
 use Rattle.buffers.proofs.make_name.Goals as goal
 
 pub returns-then-name-eq0 : goal.returns-then-name-eq0
@@ -17,4 +15,4 @@ returns-then-free-ge-SLOT_COUNT c =
 pub returns : goal.returns
 returns c =
     made_new _ c.requires.0 _ c.if-name-eq0.false _ c.find_slot.ensures c.if-find_slot-lt-SLOT_COUNT.false _ c.find_slot-free.ensures
-    (rw length-map at c.well_formed.0.1.1.0.1.0.1) _ c.if-free-ge-SLOT_COUNT.false c.lifted.ensures
+    (c.well_formed.0.1.1.0.1.0.1) _ c.if-free-ge-SLOT_COUNT.false c.lifted.ensures

@@ -1,5 +1,4 @@
 -- `buffers::next_live` meets its contract: after k turns it is sought among the first k slots.
-use Prim.Native.Nat.{◌-◌, ◌≤◌}
 use native.Mathlib.Omega.{arith}
 use mathlib.Core.Path.{subst}
 use Rattle.buffers.specs.Live.{NextLive}
@@ -10,7 +9,7 @@ pub loop-k-init : goal.loop-k-init
 loop-k-init c = (omega arith, none_yet _ _)
 
 pub lesser-best-requires : goal.lesser-best-requires
-lesser-best-requires c = (c.loop-k.invariant.1, c.loop-k-test.true)
+lesser-best-requires c = record { next_live = c.loop-k.invariant.1; k_lt_slot_count = c.loop-k-test.true }
 
 pub overflow_add-k : goal.overflow_add-k
 overflow_add-k c = omega (arith, c.loop-k-test.true)

@@ -1,8 +1,5 @@
 use Prim.Native.Nat.{◌-◌, ◌≤◌}
-use native.Mathlib.Omega.{arith}
-use mathlib.Core.Path.{subst}
 use Rattle.buffers.specs.Live.{NextLive}
-use Rattle.buffers.proofs.Living.{none_yet}
 use Rattle.buffers.proofs.next_live.Given as goal
 
 abbrev pub invariant-loop-k : goal.invariant-loop-k

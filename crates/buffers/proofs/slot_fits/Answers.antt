@@ -1,5 +1,4 @@
 use native.Mathlib.Omega.{arith}
-use borrow.Author.Rules.{rules}
 use borrow.Author.Tests.{leb-true, leb-false}
 use Rattle.buffers.proofs.Deciding.{holds, fails}
 use Rattle.buffers.proofs.slot_fits.Goals as goal

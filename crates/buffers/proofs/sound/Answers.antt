@@ -1,30 +1,21 @@
 -- `sound` decides soundness: every slot before k is sound.
-use Prim.Native.Nat.{ℕ, ◌≤◌, ◌<◌, ◌-◌}
-use mathlib.Core.Path.{◌≡◌}
 use native.Mathlib.Omega.{arith}
-use borrow.Author.Rules.{rules}
-use borrow.Author.Tests.{not-true, not-false}
 use borrow.Author.Count.{below_more}
-use lib.ListN.{length, length-map}
-use Rattle.buffers.specs.ObjectsCode.{SlotSound}
 use Rattle.buffers.proofs.Deciding.{slot_facts, sound_facts, sound_fails}
 use Rattle.buffers.proofs.sound.Goals as goal
-
-sized : (c : goal.Start) → length c.args.b.slots ≡ 16
-sized c = rw length-map at c.well_formed.0.1.1.0.1.0.1
 
 pub loop-k-init : goal.loop-k-init
 loop-k-init c = (omega arith, λ j h. absurd (omega arith))
 
 pub returns-then-not-slot_fits : goal.returns-then-not-slot_fits
 returns-then-not-slot_fits c =
-    sound_fails _ (sized c)
+    sound_fails _ c.well_formed.0.1.1.0.1.0.1
     (λ s. let f = slot_facts _ s c.loop-k.k c.loop-k-test.true in
     c.slot_fits.ensures.no c.if-not-slot_fits.true (record { small = f.small; below = f.below }))
 
 pub returns-then-not-is_first : goal.returns-then-not-is_first
 returns-then-not-is_first c =
-    sound_fails _ (sized c)
+    sound_fails _ c.well_formed.0.1.1.0.1.0.1
     (λ s. c.is_first.ensures.no c.if-not-is_first.true (slot_facts _ s c.loop-k.k c.loop-k-test.true).first)
 
 pub overflow_add-k : goal.overflow_add-k
@@ -41,7 +32,7 @@ loop-k-preserved c =
     )
 
 pub returns-then-not-bindable_name : goal.returns-then-not-bindable_name
-returns-then-not-bindable_name c = sound_fails _ (sized c) (λ s. c.bindable_name.ensures.no c.if-not-bindable_name.true s.array_live)
+returns-then-not-bindable_name c = sound_fails _ c.well_formed.0.1.1.0.1.0.1 (λ s. c.bindable_name.ensures.no c.if-not-bindable_name.true s.array_live)
 
 pub returns : goal.returns
 returns c =
@@ -52,5 +43,5 @@ returns c =
                 (c.bindable_name-2.ensures.yes e);
             no = λ e s. c.bindable_name-2.ensures.no e s.element_live;
           };
-      slots = sized c;
+      slots = c.well_formed.0.1.1.0.1.0.1;
     }
