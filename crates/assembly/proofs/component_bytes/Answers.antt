@@ -1,5 +1,6 @@
 -- `assembly::component_bytes` meets its contract: each arm is the case of its type.
-use borrow.Author.Tests.{ne_eqb}
+use Rattle.std.proofs.Common.{arith}
+use Rattle.std.proofs.lemmas.Bool.Decides.{nat_tests}
 use Rattle.fetch.specs.Decode.{component_bytes}
 use Rattle.assembly.proofs.component_bytes.Goals as goal
 
@@ -29,6 +30,4 @@ returns-in-5132 c = rw c.in-5132.is
 
 pub returns-in_default : goal.returns-in_default
 unfolding component_bytes
-returns-in_default c =
-    let r = c.in_default.in_default-own.rest in
-    simp (ne_eqb _ _ r.0.0.0.0.0.1, ne_eqb _ _ r.0.0.0.0.1, ne_eqb _ _ r.0.0.0.1, ne_eqb _ _ r.0.0.1, ne_eqb _ _ r.0.1, ne_eqb _ _ r.1)
+returns-in_default c = grind (arith, nat_tests)
