@@ -296,7 +296,7 @@ output_append before (k ∷ a) b out =
     output_append (before ++ (k ∷ [])) a b (output_after (logs before) k out)
     ∙ ap (λ (l : List Call). output_from l b (output_from (before ++ (k ∷ [])) a (output_after (logs before) k out))) (append_assoc before (k ∷ []) a)
 
-in_turn : {before l : List Call} {n v : ℕ} {c c1 : Context} {s s1 : List ℕ} {out out1 : List Float}
+in_turn : {before : List Call} {c : Context} {s : List ℕ} {out : List Float} {l : List Call} {n v : ℕ} {c1 : Context} {s1 : List ℕ} {out1 : List Float}
     → History before c s → InTurn c s out l n v c1 s1 out1 → History (before ++ l) c1 s1 × (out1 ≡ output_from before l out)
 unfolding output_from
 in_turn {before = before} {c = c} {s = s} h no_call = (subst (λ (l : List Call). History l c s) (sym (append-nil before)) h, refl)

@@ -1,13 +1,23 @@
 -- `gles_draws::draw_arrays` meets its contract, from the inner draw.
-use borrow.Author.Tests.{not-true, not-false}
+use lib.ListN.{length}
+use Rattle.vertex.specs.Scene.{range}
+use Rattle.context.specs.Contract.{draw_call}
 use Rattle.context.proofs.Entries.{draw_unready, draw_from_law}
 use borrow.Author.Rules.{rules}
 use Rattle.gles_draws.proofs.draw_arrays.Goals as goal
 
 pub returns-then-not-is_ready : goal.returns-then-not-is_ready
-returns-then-not-is_ready c = draw_unready _ _ _ _ (c.is_ready.ensures.no c.if-not-is_ready.true)
+returns-then-not-is_ready c =
+    let a = c.args in
+    let d = draw_call (range a.first a.count) a.mode a.stages a.base a.guest.now (length a.out.now) in
+    let h = draw_unready d a.c a.store.now a.out.now (c.is_ready.ensures.no c.if-not-is_ready.true) in
+    record { did = h.0; drew = h.1; }
 
 pub returns : goal.returns
 returns c =
-    rw c.answer_draw.ensures
-    (draw_from_law _ _ _ _ _ _ _ _ _ _ _ c.draw_inputs-s.ensures (c.is_ready.ensures.yes c.if-not-is_ready.false) (c.draw_range.ensures _))
+    let a = c.args in
+    let h =
+    draw_from_law (range a.first a.count) a.mode a.stages a.base a.guest.now a.c a.store.now _ _ a.out.now _
+    c.draw_inputs-s.ensures (c.is_ready.ensures.yes c.if-not-is_ready.false) (c.draw_range.ensures _)
+    in
+    rw c.answer_draw.ensures (record { did = h.0; drew = h.1; })

@@ -22,4 +22,4 @@ returns c =
     let draw-words = c.draw_words-d.ensures in
     let part_at = c.part_at-guest.ensures in
     let words-from = c.words_from-indices.ensures in
-    drew_in a.w.now a.out.now _ draw-words a.bytes.now _ part_at _ _ (ap list words-from) c.draw_elements.ensures
+    drew_in a.w.now a.out.now _ draw-words a.bytes.now _ part_at _ _ (ap list words-from) (c.draw_elements.ensures.did, c.draw_elements.ensures.drew)

@@ -23,4 +23,4 @@ returns c =
     let part_at = c.part_at-guest.ensures in
     let word_at = c.word_at-first.ensures in
     let word-at2 = c.word_at-count.ensures in
-    drew_in a.w.now a.out.now _ draw-words a.bytes.now _ part_at _ _ (λ i. range (word_at i) (word-at2 i)) c.draw_arrays.ensures
+    drew_in a.w.now a.out.now _ draw-words a.bytes.now _ part_at _ _ (λ i. range (word_at i) (word-at2 i)) (c.draw_arrays.ensures.did, c.draw_arrays.ensures.drew)

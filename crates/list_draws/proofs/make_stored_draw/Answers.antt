@@ -4,12 +4,10 @@ use Rattle.vertex.specs.Scene.{elements}
 use borrow.Author.Rules.{rules}
 use Rattle.list_draws.proofs.make_stored_draw.Goals as goal
 
-slice-relend-prefix-draw-elements-from-guest :
-    tie.Need-slice-relend-prefix-draw-elements-from-guest
-slice-relend-prefix-draw-elements-from-guest c =
-    let a = c.before.before.before.before.before.before.before.before.before.args in
-    let draw-words = c.before.before.before.before.draw-words.ensures in
-    room_fits a.w.now a.out.now _ draw-words
+pub slice_bounds-draw_elements_from_guest-end : goal.slice_bounds-draw_elements_from_guest-end
+slice_bounds-draw_elements_from_guest-end c =
+    let a = c.args in
+    room_fits a.w.now a.out.now _ c.draw_words-d.ensures
 
 pub slice_bounds-draw_elements_from_guest-end-2 : goal.slice_bounds-draw_elements_from_guest-end-2
 slice_bounds-draw_elements_from_guest-end-2 c =
@@ -26,4 +24,4 @@ returns c =
     let word-at2 = c.word_at-ty.ensures in
     let word-at3 = c.word_at-pointer.ensures in
     drew_in a.w.now a.out.now _ draw-words a.bytes.now _ part_at _ _ (λ i. elements (word_at i) (word-at2 i) (word-at3 i))
-    c.draw_elements_from_guest.ensures
+    (c.draw_elements_from_guest.ensures.did, c.draw_elements_from_guest.ensures.drew)

@@ -30,7 +30,7 @@ returns-then-code-lt48 c =
     let a = c.args in
     let if2 = c.if-code-lt32.false in
     let if3 = c.if-code-lt48.true in
-    performs_buffer (is_buffer a.bytes.now _ a.code a.w.now if2 if3) c.make_buffer.ensures
+    performs_buffer (is_buffer a.bytes.now _ a.code a.w.now if2 if3) (c.make_buffer.ensures.known_value, c.make_buffer.ensures.value_value)
 
 pub returns-then-code-lt54 : goal.returns-then-code-lt54
 returns-then-code-lt54 c =
@@ -65,10 +65,10 @@ returns-then-code-eq80 c =
 pub returns : goal.returns
 returns c =
     let a = c.args in
-    let if3 = c.if3.false in
-    let if4 = c.if4.false in
-    let if5 = c.if5.false in
-    let if6 = c.if6.false in
-    let if7 = c.if7.false in
+    let if3 = c.if-code-lt48.false in
+    let if4 = c.if-code-lt54.false in
+    let if5 = c.if-code-lt64.false in
+    let if6 = c.if-code-lt80.false in
+    let if7 = c.if-code-eq80.false in
     let make-draw = c.make_draw.ensures in
     performs_draw (is_draw_law a.bytes.now _ a.code a.w.now if3 if4 if5 if6 if7) c.drawn.ensures make-draw

@@ -9,10 +9,10 @@ pub returns-then-store-ne-STORE_BYTES : goal.returns-then-store-ne-STORE_BYTES
 returns-then-store-ne-STORE_BYTES c = record { refused = λ _. (refl, refl, c.new-c.ensures, refl, refl); ran = λ e. absurd (c.if-store-ne-STORE_BYTES.true e) }
 
 pub shape_of-store : goal.shape_of-store
-shape_of-store c = c.run_on-r.auto.1.1.1.0
+shape_of-store c = c.run_on-r.auto.store
 
 pub shape_of-out : goal.shape_of-out
-shape_of-out c = c.run_on-r.auto.1.1.1.1.0
+shape_of-out c = c.run_on-r.auto.out
 
 pub returns : goal.returns
 returns c =

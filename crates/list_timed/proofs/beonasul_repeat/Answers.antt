@@ -11,4 +11,4 @@ returns c =
     let run = c.run-r in
     let if1 = c.if-r-ne0.false in
     let repeat = c.repeat.ensures in
-    again_ran run.ensures _ _ if1 run.auto.1.1.1.0 repeat
+    again_ran run.ensures _ _ if1 run.auto.out repeat

@@ -30,8 +30,8 @@ loop-i-preserved c =
     let run_on = c.run_on-r in (
       λ before h. repeats_next inv.3 (inv.0 before h) run_on.ensures,
       omega (arith, less),
-      run_on.auto.1.1.1.0 ∙ inv.2,
-      run_on.auto.1.1.1.1.0 ∙ inv.3,
+      run_on.auto.store ∙ inv.2,
+      run_on.auto.out ∙ inv.3,
     )
 
 pub shape_of-store : goal.shape_of-store
