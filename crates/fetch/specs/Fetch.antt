@@ -1,5 +1,5 @@
 -- A fetch (01: "Pointers and attributes", "Fetch and decode"): an element's address, its bytes, and the answer.
-use Rattle.std.specs.Prelude.{ℕ, ◌+◌, ◌-◌, ◌*◌, ◌≤◌, Bool, true, false, cond, ◌&&◌, List, [], ◌≡◌, eqb, ltb, leb, length, take, drop}
+use Rattle.std.specs.Prelude.{ℕ, ◌+◌, ◌-◌, ◌*◌, Bool, true, false, cond, ◌&&◌, List, [], eqb, ltb, leb, length, take, drop}
 use Rattle.std.proofs.Math.Option.{Option, some, none}
 use Rattle.fetch.specs.Decode.{component_bytes, vector_of}
 use Rattle.fetch.specs.declared.ArrayPointer.{ArrayPointer}

@@ -1,5 +1,4 @@
 -- `fetch::can_read` meets its contract: each arm is the case of the place.
-use borrow.Author.Rules.{rules}
 use Rattle.fetch.proofs.can_read.Goals as goal
 
 pub returns-in-At : goal.returns-in-At

@@ -1,7 +1,6 @@
 -- `fetch::find_extent` meets its contract: each way out is a case of the extent.
 use borrow.Author.Tests.{eq-eqb, ne_eqb}
 use Rattle.fetch.proofs.Extents.{extent_guest, extent_absent, extent_slot}
-use borrow.Author.Rules.{rules}
 use Rattle.fetch.proofs.find_extent.Goals as goal
 
 pub returns-then-buffer-eq0 : goal.returns-then-buffer-eq0

@@ -1,6 +1,5 @@
 -- `fetch::find_in_buffer` meets its contract: each way out is a case of the law on parts.
 use native.Mathlib.Omega.{arith}
-use borrow.Author.Rules.{rules}
 use Rattle.fetch.proofs.Parts.{none_zero, none_slot, slot_short, slot_empty, slot_there}
 use Rattle.fetch.proofs.find_in_buffer.Goals as goal
 

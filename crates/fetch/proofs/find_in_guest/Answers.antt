@@ -1,6 +1,5 @@
 -- `fetch::find_in_guest` meets its contract: each way out is a case of the law on parts.
 use native.Mathlib.Omega.{arith}
-use borrow.Author.Rules.{rules}
 use Rattle.fetch.proofs.Parts.{guest_low, guest_short, guest_there}
 use Rattle.fetch.proofs.find_in_guest.Goals as goal
 

@@ -1,5 +1,4 @@
 -- `fetch::find_place` meets its contract: the buffer field picks the source.
-use borrow.Author.Rules.{rules}
 use borrow.Author.Tests.{eq-eqb, ne_eqb}
 use Rattle.fetch.specs.Fetch.{part_of}
 use Rattle.fetch.proofs.find_place.Goals as goal

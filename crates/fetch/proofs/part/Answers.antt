@@ -2,7 +2,6 @@
 use mathlib.Core.Path.{sym, ap, ◌∙◌}
 use borrow.Author.Tests.{eq-eqb, ne_eqb}
 use Rattle.fetch.specs.Fetch.{bytes_in, part_of}
-use borrow.Author.Rules.{rules}
 use Rattle.fetch.proofs.part.Goals as goal
 
 pub returns-then-buffer-eq0 : goal.returns-then-buffer-eq0

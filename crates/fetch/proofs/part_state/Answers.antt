@@ -1,5 +1,4 @@
 -- `fetch::part_state` meets its contract: each arm is the case of the place.
-use borrow.Author.Rules.{rules}
 use Rattle.fetch.proofs.part_state.Goals as goal
 
 pub returns-in-At : goal.returns-in-At

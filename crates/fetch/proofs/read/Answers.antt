@@ -1,7 +1,6 @@
 -- `fetch::read` meets its contract: each arm is the case of the place.
 use mathlib.Core.Path.{sym, ap, ◌∙◌}
 use Rattle.fetch.specs.Fetch.{bytes_in}
-use borrow.Author.Rules.{rules}
 use Rattle.fetch.proofs.read.Goals as goal
 
 pub cut-requires : goal.cut-requires
