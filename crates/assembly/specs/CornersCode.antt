@@ -1,4 +1,4 @@
--- For the code: the corners of a draw one after the other, those of all triangles numbered from 0. Their f32 are the first of `words_of` (`corners-front`).
+-- For the code: the corners of a draw one after the other, those of all triangles numbered from 0. Their f32 are the first of `words_of` (`corners_front`).
 use Rattle.std.specs.Prelude.{List, [], ◌++◌, ℕ, zero, suc, Float}
 use Rattle.vertex.specs.Vertex.{vertex_words}
 use Rattle.vertex.specs.declared.Vertex.{Vertex}
