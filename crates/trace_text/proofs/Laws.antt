@@ -13,7 +13,7 @@ use lib.Seq.{drop-cons, drop-drop, take_at}
 use borrow.Rule.Slice.PartMut.{put_mid}
 use Rattle.io.specs.Digits.{hex_digit_ascii, last_digits, IsDigitCount}
 use Rattle.number.specs.Bytes.{overwrite}
-use Rattle.trace_text.specs.Text.{Page, page, put_text, put_held, decimal_in, decimal, hex, shown_bits, put_float}
+use Rattle.trace_text.specs.Text.{Page, page, put_text, put_held, decimal_in, decimal, hex, shown_bits}
 
 pub glyph_low : (d : ℕ) → d < 10 → 48 + d ≡ hex_digit_ascii d
 glyph_low d h = rw (lt-ltb d 10 h)

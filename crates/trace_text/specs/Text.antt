@@ -1,5 +1,5 @@
 -- Text put into an area of bytes, piece by piece. A page is the area's bytes and the place where the next piece goes.
-use Rattle.std.specs.Prelude.{cond, ℕ, zero, suc, ◌+◌, ◌/◌, ◌%◌, min, ltb, leb, length, take, drop, Float}
+use Rattle.std.specs.Prelude.{cond, ℕ, zero, suc, ◌+◌, ◌/◌, ◌%◌, min, ltb, leb, length, Float}
 use mathlib.Core.List.{List, [], ◌∷◌, ◌++◌, foldl}
 use Rattle.std.specs.Float.{binary32}
 use Rattle.std.specs.Float.Ieee.{is_nan, to_bits}

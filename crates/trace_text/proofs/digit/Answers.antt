@@ -1,6 +1,5 @@
 -- `text::digit` meets its contract.
 use Rattle.trace_text.proofs.Laws.{glyph_low, glyph_high}
-use borrow.Author.Rules.{rules}
 use Rattle.trace_text.proofs.digit.Goals as goal
 
 pub returns-then-d-lt10 : goal.returns-then-d-lt10

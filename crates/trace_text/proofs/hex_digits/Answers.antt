@@ -1,6 +1,5 @@
 -- `text::hex_digits` meets its contract.
 use Rattle.trace_text.proofs.Laws.{hex_is}
-use borrow.Author.Rules.{rules}
 use Rattle.trace_text.proofs.hex_digits.Goals as goal
 
 pub returns : goal.returns

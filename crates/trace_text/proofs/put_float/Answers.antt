@@ -4,7 +4,6 @@ use mathlib.Core.List.{List}
 use Prim.Native.Nat.{ℕ}
 use Rattle.trace_text.specs.Text.{page, put_text, spaced, hex}
 use Rattle.trace_text.proofs.Laws.{eight}
-use borrow.Author.Rules.{rules}
 use Rattle.trace_text.proofs.put_float.Goals as goal
 
 pub returns : goal.returns

@@ -1,13 +1,12 @@
 -- `text::put_floats` meets its contract: what is still to be put after i of them.
-use mathlib.Core.Path.{◌≡◌, refl, sym, ap, ◌∙◌}
+use mathlib.Core.Path.{refl, sym, ap, ◌∙◌}
 use mathlib.Core.List.{foldl}
-use Prim.Native.Nat.{ℕ, ◌-◌, ◌≤◌}
+use Prim.Native.Nat.{ℕ}
 use native.Mathlib.Omega.{arith}
-use lib.ListN.{length, drop, drop_of_length-le}
+use lib.ListN.{drop_of_length-le}
 use Rattle.io.proofs.Counting.{prefix_len_of_le}
-use Rattle.trace_text.specs.Text.{page, put_float, put_each}
+use Rattle.trace_text.specs.Text.{page, put_float}
 use Rattle.trace_text.proofs.Laws.{put_next}
-use borrow.Author.Rules.{rules}
 use Rattle.trace_text.proofs.put_floats.Goals as goal
 
 pub loop-i-init : goal.loop-i-init

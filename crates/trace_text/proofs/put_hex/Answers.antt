@@ -1,7 +1,6 @@
 -- `text::put_hex` meets its contract.
 use mathlib.Core.Path.{ap, ◌∙◌}
 use Rattle.trace_text.specs.Text.{page, put_text}
-use borrow.Author.Rules.{rules}
 use Rattle.trace_text.proofs.put_hex.Goals as goal
 
 pub returns : goal.returns

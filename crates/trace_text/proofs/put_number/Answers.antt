@@ -5,7 +5,6 @@ use native.Mathlib.Omega.{arith}
 use lib.ListN.{replicate}
 use Rattle.trace_text.specs.Text.{page, put_text, spaced}
 use Rattle.trace_text.proofs.Laws.{behind, decimal_is, few}
-use borrow.Author.Rules.{rules}
 use Rattle.trace_text.proofs.put_number.Goals as goal
 
 pub returns : goal.returns

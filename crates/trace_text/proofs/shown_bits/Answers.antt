@@ -1,7 +1,6 @@
 -- `text::shown_bits` meets its contract.
 use mathlib.Core.Path.{◌∙◌}
 use Rattle.trace_text.proofs.Laws.{shown}
-use borrow.Author.Rules.{rules}
 use Rattle.trace_text.proofs.shown_bits.Goals as goal
 
 pub returns : goal.returns
