@@ -1,6 +1,5 @@
 -- `words::bytes_at` meets its contract: place and number are held within the bytes.
 use Rattle.list_words.proofs.Words.{part_is}
-use borrow.Author.Rules.{rules}
 use Rattle.list_words.proofs.bytes_at.Goals as goal
 
 pub returns : goal.returns

@@ -1,5 +1,4 @@
 -- `words::matrix_floats` meets its contract, word by word.
-use borrow.Author.Rules.{rules}
 use Rattle.list_words.proofs.matrix_floats.Goals as goal
 
 pub returns : goal.returns

@@ -1,7 +1,6 @@
 -- `words::part_at` meets its contract.
 use mathlib.Core.Path.{◌∙◌}
 use lib.ListN.{take, drop}
-use borrow.Author.Rules.{rules}
 use Rattle.list_words.proofs.part_at.Goals as goal
 
 pub returns : goal.returns

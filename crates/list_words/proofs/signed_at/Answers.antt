@@ -1,7 +1,5 @@
 -- `list_words::signed_at` meets its contract: the machine reads back the number of the word.
-use mathlib.Core.Path.{ap, ◌∙◌}
 use native.Mathlib.Omega.{arith}
-use borrow.Author.Rules.{rules}
 use mir.Syntax.{w32}
 use Rattle.number.proofs.TwosComplement.{signed_read}
 use Rattle.list_words.proofs.signed_at.Goals as goal

@@ -1,6 +1,5 @@
 -- `words::words_from` meets its contract: the place is held within the words.
 use Rattle.list_words.proofs.Words.{rest_is}
-use borrow.Author.Rules.{rules}
 use Rattle.list_words.proofs.words_from.Goals as goal
 
 pub returns : goal.returns
