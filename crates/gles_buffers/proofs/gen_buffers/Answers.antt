@@ -7,7 +7,7 @@ use Rattle.gles_buffers.proofs.gen_buffers.Goals as goal
 
 pub returns-then-not-is_sound_apart : goal.returns-then-not-is_sound_apart
 returns-then-not-is_sound_apart c =
-    record { does = λ s. unsound_apart _ _ s (c.is_sound_apart.ensures.no c.if-not-is_sound_apart.true); first_value = refl; }
+    record { does = λ s. unsound_apart _ _ s (c.is_sound_apart.ensures.no c.if-not-is_sound_apart.true); first_value = refl }
 
 pub returns : goal.returns
 returns c =

@@ -11,7 +11,7 @@ returns-then-not-is_ready c =
     let a = c.args in
     let d = draw_call (range a.first a.count) a.mode a.stages a.base a.guest.now (length a.out.now) in
     let h = draw_unready d a.c a.store.now a.out.now (c.is_ready.ensures.no c.if-not-is_ready.true) in
-    record { did = h.0; drew = h.1; }
+    record { did = h.0; drew = h.1 }
 
 pub returns : goal.returns
 returns c =
@@ -20,4 +20,4 @@ returns c =
     draw_from_law (range a.first a.count) a.mode a.stages a.base a.guest.now a.c a.store.now _ _ a.out.now _
     c.draw_inputs-s.ensures (c.is_ready.ensures.yes c.if-not-is_ready.false) (c.draw_range.ensures _)
     in
-    rw c.answer_draw.ensures (record { did = h.0; drew = h.1; })
+    rw c.answer_draw.ensures (record { did = h.0; drew = h.1 })
