@@ -1,5 +1,5 @@
 -- The numbers of the choices, as the GL ES headers give them.
-use Rattle.std.specs.Prelude.{Bool, cond, ◌&&◌, List, [], ◌∷◌, ◌++◌, ℕ, eqb, leb}
+use Rattle.std.specs.Prelude.{Bool, cond, ◌&&◌, List, [], ◌∷◌, ◌++◌, ℕ, leb}
 use Rattle.std.proofs.Math.Option.{Option, some, none, get_or}
 use Rattle.number.specs.Tables.{Row, ◌names◌, lookup}
 use Rattle.pipeline.specs.declared.CompareFunc.{CompareFunc}

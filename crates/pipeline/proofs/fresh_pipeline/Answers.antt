@@ -1,5 +1,4 @@
 -- `pipeline::fresh_pipeline` meets its contract, from what `fresh_unit` ensures.
-use borrow.Author.Rules.{rules}
 use Rattle.pipeline.proofs.fresh_pipeline.Goals as goal
 
 pub returns : goal.returns

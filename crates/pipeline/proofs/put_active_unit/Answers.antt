@@ -1,6 +1,5 @@
 -- `pipeline::put_active_unit` meets its contract: each return is the case that its test says.
 use borrow.Author.Tests.{lt-ltb, le-ltb}
-use borrow.Author.Rules.{rules}
 use Rattle.pipeline.proofs.put_active_unit.Goals as goal
 
 pub returns-then-i-lt4 : goal.returns-then-i-lt4

@@ -1,7 +1,6 @@
 -- `pipeline::set_active_texture` meets its contract: each return is the case that its test says.
 use borrow.Author.Tests.{lt-ltb, le-ltb}
 use Rattle.pipeline.specs.Pipeline.{accepted_pipeline, pipeline_step}
-use borrow.Author.Rules.{rules}
 use Rattle.pipeline.proofs.set_active_texture.Goals as goal
 
 pub returns-then-unit-lt4 : goal.returns-then-unit-lt4

@@ -1,6 +1,5 @@
 -- `pipeline::set_alpha_func` meets its contract: each arm is the case of the table's answer.
 use Rattle.pipeline.specs.Pipeline.{accepted_pipeline, pipeline_step}
-use borrow.Author.Rules.{rules}
 use Rattle.pipeline.proofs.set_alpha_func.Goals as goal
 
 pub returns-in-Known : goal.returns-in-Known

@@ -1,7 +1,6 @@
 -- `pipeline::set_blend_func` meets its contract: each arm is the case of the two tables' answers.
 use mathlib.Core.Option.{bind}
 use Rattle.pipeline.specs.Pipeline.{accepted_pipeline, pipeline_step}
-use borrow.Author.Rules.{rules}
 use Rattle.pipeline.proofs.set_blend_func.Goals as goal
 
 pub returns-in-Known-to : goal.returns-in-Known-to

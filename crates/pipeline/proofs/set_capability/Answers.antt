@@ -1,6 +1,5 @@
 -- `pipeline::set_capability` meets its contract: each arm is the case of what the number switches.
 use Rattle.pipeline.specs.Pipeline.{accepted_pipeline, pipeline_step}
-use borrow.Author.Rules.{rules}
 use Rattle.pipeline.proofs.set_capability.Goals as goal
 
 pub returns-in-DepthTest : goal.returns-in-DepthTest

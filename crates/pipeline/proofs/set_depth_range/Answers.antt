@@ -1,6 +1,5 @@
 -- `pipeline::set_depth_range` meets its contract, from what its callees ensure.
 use Rattle.pipeline.specs.Pipeline.{accepted_pipeline, pipeline_step}
-use borrow.Author.Rules.{rules}
 use Rattle.pipeline.proofs.set_depth_range.Goals as goal
 
 pub returns : goal.returns

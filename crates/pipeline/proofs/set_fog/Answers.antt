@@ -1,6 +1,5 @@
 -- `pipeline::set_fog` meets its contract: each arm is the case of what the number names.
 use Rattle.pipeline.specs.Pipeline.{accepted_pipeline, pipeline_step}
-use borrow.Author.Rules.{rules}
 use Rattle.pipeline.proofs.set_fog.Goals as goal
 
 pub returns-in-Mode : goal.returns-in-Mode

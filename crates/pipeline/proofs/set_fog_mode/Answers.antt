@@ -1,5 +1,4 @@
 -- `pipeline::set_fog_mode` meets its contract: each arm is the case of the table's answer.
-use borrow.Author.Rules.{rules}
 use Rattle.pipeline.proofs.set_fog_mode.Goals as goal
 
 pub returns-in-Known : goal.returns-in-Known

@@ -1,6 +1,5 @@
 -- `pipeline::set_tex_env_color` meets its contract, from what its callees ensure.
 use Rattle.pipeline.specs.Pipeline.{accepted_pipeline, pipeline_step}
-use borrow.Author.Rules.{rules}
 use Rattle.pipeline.proofs.set_tex_env_color.Goals as goal
 
 pub returns : goal.returns

@@ -2,7 +2,6 @@
 use mathlib.Core.Option.{bind}
 use borrow.Author.Tests.{eq-eqb, ne_eqb}
 use Rattle.pipeline.specs.Pipeline.{accepted_pipeline, pipeline_step}
-use borrow.Author.Rules.{rules}
 use Rattle.pipeline.proofs.tex_env.Goals as goal
 
 pub returns-then-pname-ne8704 : goal.returns-then-pname-ne8704
