@@ -5,14 +5,12 @@ use mathlib.Core.Logic.{◌⊎◌, inl, inr}
 use mathlib.Core.Option.{Option, some, none, bind}
 use Prim.Native.Nat.{ℕ, ◌<◌}
 use lib.Dec.{ltb}
-use lib.ListN.{set}
 use borrow.Author.Tests.{lt-ltb, ltb-true}
 use Rattle.number.specs.Tables.{lookup}
 use Rattle.fetch.specs.declared.ArrayPointer.{ArrayPointer}
 use Rattle.arrays.specs.declared.Arrays.{Arrays}
 use Rattle.arrays.specs.declared.ArrayKind.{ArrayKind}
 use Rattle.arrays.specs.declared.Attributes.{Attributes}
-use Rattle.arrays.specs.declared.AttributesAnswer.{AttributesAnswer}
 use Rattle.arrays.specs.Arrays.{unit_count, put_array, array_kinds, with_client_unit, ArrayCall, vertex_pointer, color_pointer, normal_pointer}
 use Rattle.arrays.specs.Arrays.{texcoord_pointer, client_state, client_unit, accepted_arrays, arrays_answered, array_step}
 use Rattle.arrays.specs.Attributes.{AttributeCall, color, multi_texcoord, unit_of, attributes_answered, attribute_step}

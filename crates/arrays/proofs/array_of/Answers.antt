@@ -1,5 +1,4 @@
 -- `arrays::array_of` meets its contract: each arm is the case of the kind.
-use borrow.Author.Rules.{rules}
 use Rattle.arrays.proofs.array_of.Goals as goal
 
 pub returns-in-TexCoord : goal.returns-in-TexCoord

@@ -1,5 +1,4 @@
 -- `arrays::fresh_arrays` meets its contract, from what `fresh_array` ensures.
-use borrow.Author.Rules.{rules}
 use Rattle.arrays.proofs.fresh_arrays.Goals as goal
 
 pub returns : goal.returns

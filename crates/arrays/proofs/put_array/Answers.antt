@@ -1,5 +1,4 @@
 -- `arrays::put_array` meets its contract: each arm is the case of the kind.
-use borrow.Author.Rules.{rules}
 use Rattle.arrays.proofs.put_array.Goals as goal
 
 pub returns-in-Vertex : goal.returns-in-Vertex

@@ -1,6 +1,5 @@
 -- `arrays::put_client_array` meets its contract: each return is the case that its test says.
 use borrow.Author.Tests.{lt-ltb, le-ltb}
-use borrow.Author.Rules.{rules}
 use Rattle.arrays.proofs.put_client_array.Goals as goal
 
 pub returns-then-i-lt-UNIT_COUNT : goal.returns-then-i-lt-UNIT_COUNT

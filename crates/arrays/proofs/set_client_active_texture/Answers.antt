@@ -1,7 +1,6 @@
 -- `arrays::set_client_active_texture` meets its contract: each return is the case that its test says.
 use borrow.Author.Tests.{lt-ltb, le-ltb}
 use Rattle.arrays.specs.Arrays.{accepted_arrays, array_step}
-use borrow.Author.Rules.{rules}
 use Rattle.arrays.proofs.set_client_active_texture.Goals as goal
 
 pub returns-then-unit-lt-UNIT_COUNT : goal.returns-then-unit-lt-UNIT_COUNT

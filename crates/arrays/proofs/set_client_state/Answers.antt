@@ -1,7 +1,6 @@
 -- `arrays::set_client_state` meets its contract: each arm is the case of the table's answer.
 use mathlib.Core.Option.{bind}
 use Rattle.arrays.specs.Arrays.{accepted_arrays, array_step}
-use borrow.Author.Rules.{rules}
 use Rattle.arrays.proofs.set_client_state.Goals as goal
 
 pub returns-in-Known : goal.returns-in-Known

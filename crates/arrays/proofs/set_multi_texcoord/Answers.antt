@@ -1,7 +1,6 @@
 -- `arrays::set_multi_texcoord` meets its contract: each return is the case that its test says.
 use borrow.Author.Tests.{lt-ltb, le-ltb}
 use Rattle.arrays.specs.Attributes.{attribute_step}
-use borrow.Author.Rules.{rules}
 use Rattle.arrays.proofs.set_multi_texcoord.Goals as goal
 
 pub returns-then-i-lt-UNIT_COUNT : goal.returns-then-i-lt-UNIT_COUNT

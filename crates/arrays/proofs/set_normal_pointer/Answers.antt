@@ -1,6 +1,5 @@
 -- `arrays::set_normal_pointer` meets its contract, from what `set_pointer` ensures.
 use Rattle.arrays.specs.Arrays.{accepted_arrays, array_step}
-use borrow.Author.Rules.{rules}
 use Rattle.arrays.proofs.set_normal_pointer.Goals as goal
 
 pub returns : goal.returns

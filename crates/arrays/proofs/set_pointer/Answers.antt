@@ -1,5 +1,4 @@
 -- `arrays::set_pointer` meets its contract, from what the two inner functions ensure.
-use borrow.Author.Rules.{rules}
 use Rattle.arrays.proofs.set_pointer.Goals as goal
 
 pub returns : goal.returns
