@@ -37,16 +37,9 @@ module _ {before : List Call} {words bytes : List ℕ} {out₀ : List Float} whe
             ∙ ap (λ (o : List Float). output_from (before ++ times_of i l) l o) g.output ∙ sym (output_append before (times_of i l) l out₀);
       })
 
-  pub repeats_all : {i times : ℕ} {c : Context} {s : List ℕ} {out : List Float}
-      → Repeats before i words bytes out₀ c s out → i ≡ times → Repeats before times words bytes out₀ c s out
-  repeats_all {c = c} {s = s} {out = out} g e = subst (λ (n : ℕ). Repeats before n words bytes out₀ c s out) e g
-
--- ---- the two ways out
+-- ---- both lists
 
 module _ {first bytes s s1 : List ℕ} {out out1 : List Float} {r : RunReply} (g : Runs first bytes s out r s1 out1) (again : List ℕ) (times : ℕ) where
-  pub again_refused : (r.number ≡ 0 → ⊥) → RunsAgain first again times bytes s out 0 s1 out1
-  again_refused n = record { refused = λ e. (refl, (g.refused e).3, (g.refused e).4); ran = λ e. absurd (n (g.ran e).0) }
-
   pub again_ran : {c2 : Context} {s2 : List ℕ} {out2 : List Float} → r.number ≡ 0 → length out1 ≡ length out
       → ((l : List Call) → History l r.context s1 → Repeats l times again bytes out1 c2 s2 out2)
       → RunsAgain first again times bytes s out r.read s2 out2

@@ -1,13 +1,7 @@
-use mathlib.Core.List.{List}
-use mathlib.Core.Path.{◌≡◌, refl, subst, ◌∙◌}
-use Prim.Native.Nat.{ℕ, ◌-◌, ◌≤◌}
-use native.Mathlib.Omega.{arith}
-use borrow.Author.Rules.{rules}
-use lib.ListN.{length}
+use Rattle.std.proofs.Common.{List, ◌≡◌, ◌-◌, ◌≤◌, length}
 use Rattle.context.specs.Calls.{Call}
 use Rattle.history.specs.Demand3.{History}
 use Rattle.list_timed.specs.Repeat.{Repeats}
-use Rattle.list_timed.proofs.Repeating.{repeats_none, repeats_next, repeats_all}
 use Rattle.list_timed.proofs.repeat.Given as goal
 
 abbrev pub invariant-loop-i : goal.invariant-loop-i
