@@ -1,6 +1,7 @@
 -- From the theorem to the code: what the contract of each function ensures is `Did` of its call, and `Drew` for a draw.
 -- `Learnt` is what the toolchain reads off a function's own `ensures`: of its arguments before, its result and its arguments after.
 use Rattle.std.specs.Prelude.{Bool, List, ℕ, length, Float}
+use denote.Bor.{Bor}
 use denote.Ref.{MutBor, at_last}
 use contract.Lifetimes.{Lfts}
 use Rattle.stack.specs.Stack.{MatrixUpdate, MatrixCall}
@@ -103,13 +104,13 @@ pub record Entries : Type 0 where
   pub bind_buffer_call : (c : Context) (target name : ℕ) (r : Reply)
       → Of bind-buffer-promise.Learnt (c, (target, (name, tt))) r
       → Does (Call.object (ObjectCall.buffer (BufferCall.bind_buffer target name))) c r.number r.context
-  pub delete_buffers_call : (κs : Lfts 1) (c : Context) (names : MutBor (List ℕ)) (r : Reply)
+  pub delete_buffers_call : (κs : Lfts 1) (c : Context) (names : Bor (List ℕ)) (r : Reply)
       → delete-buffers-promise.Learnt κs (c, (names, tt)) r (c, (names, tt))
       → Does (Call.object (ObjectCall.buffer (BufferCall.delete_buffers names.now))) c r.number r.context
-  pub buffer_data_call : (κs : Lfts 2) (c : Context) (store bytes : MutBor (List ℕ)) (s1 : List ℕ) (target size usage : ℕ) (r : Reply)
+  pub buffer_data_call : (κs : Lfts 2) (c : Context) (store : MutBor (List ℕ)) (bytes : Bor (List ℕ)) (s1 : List ℕ) (target size usage : ℕ) (r : Reply)
       → buffer-data-promise.Learnt κs (c, (store, (target, (size, (bytes, (usage, tt)))))) r (c, (at_last store s1, (target, (size, (bytes, (usage, tt))))))
       → Did (Call.object (ObjectCall.buffer (BufferCall.buffer_data target size bytes.now usage))) c store.now r.number r.context s1
-  pub buffer_sub_data_call : (κs : Lfts 2) (c : Context) (store bytes : MutBor (List ℕ)) (s1 : List ℕ) (target offset : ℕ) (r : Reply)
+  pub buffer_sub_data_call : (κs : Lfts 2) (c : Context) (store : MutBor (List ℕ)) (bytes : Bor (List ℕ)) (s1 : List ℕ) (target offset : ℕ) (r : Reply)
       → buffer-sub-data-promise.Learnt κs (c, (store, (target, (offset, (bytes, tt))))) r (c, (at_last store s1, (target, (offset, (bytes, tt)))))
       → Did (Call.object (ObjectCall.buffer (BufferCall.buffer_sub_data target offset bytes.now))) c store.now r.number r.context s1
   pub set_vertex_pointer : (c : Context) (size ty stride pointer : ℕ) (r : Reply)
@@ -172,15 +173,15 @@ pub record Entries : Type 0 where
   pub take_error_call : (c : Context) (r : ErrorReply)
       → Of take-error-promise.Learnt (c, tt) r
       → Does Call.take_error c r.number r.context
-  pub draw_elements : (κs : Lfts 3) (c : Context) (store guest indices : MutBor (List ℕ)) (out : MutBor (List Float)) (out1 : List Float) (base code stages : ℕ) (r : DrawReply)
+  pub draw_elements : (κs : Lfts 3) (c : Context) (store guest indices : Bor (List ℕ)) (out : MutBor (List Float)) (out1 : List Float) (base code stages : ℕ) (r : DrawReply)
       → draw-elements-promise.Learnt κs (c, (store, (base, (guest, (code, (indices, (stages, (out, tt)))))))) r
       (c, (store, (base, (guest, (code, (indices, (stages, (at_last out out1, tt))))))))
       → DrawDid (draw_call (Source.list indices.now) code stages base guest.now (length out.now)) c store.now r out.now out1
-  pub draw_arrays : (κs : Lfts 2) (c : Context) (store guest : MutBor (List ℕ)) (out : MutBor (List Float)) (out1 : List Float) (base code first count stages : ℕ) (r : DrawReply)
+  pub draw_arrays : (κs : Lfts 2) (c : Context) (store guest : Bor (List ℕ)) (out : MutBor (List Float)) (out1 : List Float) (base code first count stages : ℕ) (r : DrawReply)
       → draw-arrays-promise.Learnt κs (c, (store, (base, (guest, (code, (first, (count, (stages, (out, tt))))))))) r
       (c, (store, (base, (guest, (code, (first, (count, (stages, (at_last out out1, tt)))))))))
       → DrawDid (draw_call (Source.range first count) code stages base guest.now (length out.now)) c store.now r out.now out1
-  pub draw_elements_from_guest : (κs : Lfts 2) (c : Context) (store guest : MutBor (List ℕ)) (out : MutBor (List Float)) (out1 : List Float)
+  pub draw_elements_from_guest : (κs : Lfts 2) (c : Context) (store guest : Bor (List ℕ)) (out : MutBor (List Float)) (out1 : List Float)
       (base code count ty pointer stages : ℕ) (r : DrawReply)
       → draw-elements-from-guest-promise.Learnt κs (c, (store, (base, (guest, (code, (count, (ty, (pointer, (stages, (out, tt)))))))))) r
       (c, (store, (base, (guest, (code, (count, (ty, (pointer, (stages, (at_last out out1, tt))))))))))
