@@ -1,5 +1,6 @@
 -- `driver::draw` meets its contract: each arm is its row.
 use mathlib.Core.Path.{refl}
+use lib.ListN.{length}
 use Rattle.number.proofs.Tables.{last_row}
 use Rattle.trace_driver.specs.Draws.{trace_source_rows, trace_source}
 use Rattle.trace_driver.proofs.Drawing.{did_as}
@@ -19,4 +20,6 @@ unfolding trace_source
 returns-in_default c =
     let a = c.args in
     let arm = c.in_default.in_default-own.rest in
-    did_as (last_row (trace_source_rows a.w.now) _ _ arm) refl refl c.draw_stored.ensures
+    let d = c.draw_stored in
+    did_as {base = a.base} {room = length a.out.now} {guest = a.guest.now} {s = a.store.now} {c = a.c} {out = a.out.now} {out1 = d.new.out} {r = d.result}
+    (last_row (trace_source_rows a.w.now) _ _ arm) refl refl d.ensures

@@ -1,5 +1,6 @@
 -- `driver::draw_list` meets its contract, from the draw on a view.
 use mathlib.Core.Path.{ap}
+use lib.ListN.{length}
 use Rattle.vertex.specs.Scene.{list}
 use Rattle.trace_driver.proofs.Drawing.{did_as}
 use borrow.Author.Rules.{rules}
@@ -10,4 +11,7 @@ returns c =
     let word_at = c.word_at-mode.ensures in
     let word-at2 = c.word_at-stages.ensures in
     let words-from = c.words_from-indices.ensures in
-    did_as (ap list words-from) word_at word-at2 c.draw_elements_at.ensures
+    let a = c.args in
+    let d = c.draw_elements_at in
+    did_as {base = a.base} {room = length a.out.now} {guest = a.guest.now} {s = a.store.now} {c = a.c} {out = a.out.now} {out1 = d.new.out} {r = d.result}
+    (ap list words-from) word_at word-at2 d.ensures
