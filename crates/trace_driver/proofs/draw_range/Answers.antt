@@ -14,4 +14,4 @@ returns c =
     let a = c.args in
     let d = c.draw_arrays_at in
     did_as {base = a.base} {room = length a.out.now} {guest = a.guest.now} {s = a.store.now} {c = a.c} {out = a.out.now} {out1 = d.new.out} {r = d.result}
-    (λ i. range (word-at3 i) (word-at4 i)) word_at word-at2 d.ensures
+    (λ i. range (word-at3 i) (word-at4 i)) word_at word-at2 (d.ensures.did, d.ensures.drew)
