@@ -71,6 +71,10 @@ tell_reading() {
 
 # ---- the replay program and the library
 
+# The crates of crates.txt, and what a crate builds on there; `NAME staticlib: ..` is a static library.
+crate_names() { sed -n 's/^\([a-z_0-9]*\)\( [^:]*\)\{0,1\}:.*/\1/p' "$root/crates.txt"; }
+crates_below() { sed -n "s/^$1\( [^:]*\)\{0,1\}://p" "$root/crates.txt" | tr ' ' '\n' | grep -xF -f <(crate_names); }
+
 # Sets `replay` to the path of the replay program. REPLAY names another program to run in its place. Where ./install has put these scripts there
 # are no sources, and the program lies in the folder bin.
 find_replay() {
@@ -80,7 +84,7 @@ find_replay() {
         printf '%s stands in for the replay program\n' "$REPLAY" >&2
     elif [ -d "$root/crates" ]; then
         replay=$root/target/bin/replay
-        find_built "$replay" "the replay program" check replay
+        find_built "$replay" "the replay program" run replay
     else
         replay=$root/../../bin/replay
         [ -x "$replay" ] || { printf 'there is no program %s\n' "$replay" >&2; return 1; }
@@ -91,7 +95,7 @@ find_replay() {
 find_library() {
     library=${BEONASUL_LIB:-$root/target/staticlib}/libstation.a
     if [ -z "${BEONASUL_LIB:-}" ]; then
-        find_built "$library" "the static library" staticlib station
+        find_built "$library" "the static library" lib station_c
     elif [ ! -f "$library" ]; then
         printf 'BEONASUL_LIB: there is no %s\n' "$library" >&2
         return 1
@@ -99,19 +103,20 @@ find_library() {
 }
 
 # find_built FILE WHAT COMMAND NAME: a file that is there and not older than its sources is taken as it is: nothing is locked, written or asked
-# of the kit. Otherwise `rt COMMAND NAME` proves the crate and what it builds on, and links the file.
+# of the kit. So is what `rt ci` or another command left in the folder of the crate NAME. Otherwise `rt COMMAND` there proves the crate and what it
+# builds on, and makes the file.
 find_built() {
-    local lacks=
-    [ ! -e "$1" ] || [ -n "$(find "$root/crates" "$root/crates.txt" -newer "$1" -print -quit 2>&1)" ] || return 0
+    local lacks= kits
+    is_new "$1" && return
+    kits=$(made_of "$4")
+    is_new "$kits" && take_made "$kits" "$1" "$kits" 2>/dev/null && return
     if ! command -v rt >/dev/null; then
         lacks="the Rattle kit's command rt is not on the path (README.md, What you need)"
-    elif ! { mkdir -p "$root/target" && : >>"$root/target/prove.lock"; } 2>/dev/null; then
+    elif ! { mkdir -p "${1%/*}" && : >>"$root/target/prove.lock"; } 2>/dev/null; then
         lacks="$root cannot be written"
     fi
     if [ -z "$lacks" ]; then
-        # The kit's stamps say what is proved, not whether the file still lies there.
-        [ -e "$1" ] || rm -f "$root/target/stamp/$4"
-        prove "$3" "$4" && [ -e "$1" ]
+        prove "$1" "$3" "$4" && [ -e "$1" ]
     elif [ -e "$1" ]; then
         printf 'The sources are newer than %s. It is used as it is: %s\n' "$2" "$lacks" >&2
     else
@@ -120,8 +125,20 @@ find_built() {
     fi
 }
 
-# prove COMMAND NAME: `rt COMMAND NAME`, which proves a crate and what it builds on. Says a line for each crate that is proved now, and a line at
-# least every ten seconds; nothing where all are proved already.
+# Status 0 if the file is there and nothing of the sources is newer. The folders `out`, where the kit keeps what it makes, do not count.
+is_new() {
+    [ -e "$1" ] &&
+        [ -z "$(cd "$root" && find crates crates.txt -path 'crates/*/out' -prune -o \( -path 'crates/*/*' -o -type f \) -newer "$1" -print -quit 2>&1)" ]
+}
+
+# The file that the kit makes of a crate: a program, or a static library.
+made_of() { if [ -e "$root/crates/$1/src/main.rt" ]; then echo "$root/crates/$1/out/$1"; else echo "$root/crates/$1/out/lib$1.a"; fi; }
+
+# take_made MADE FILE OLD: the file MADE becomes FILE, of the age of the file OLD.
+take_made() { mkdir -p "${2%/*}" && cp -- "$1" "$2.$$" && touch -r "$3" -- "$2.$$" && mv -f -- "$2.$$" "$2"; }
+
+# prove FILE COMMAND NAME: `rt COMMAND` for the crate NAME, which proves it and what it builds on; FILE is then what it made. Says a line for each
+# crate that is proved now, and a line at least every ten seconds; nothing where all are proved already.
 prove() {
     local log status
     log=$(mktemp) || return 1
@@ -129,38 +146,44 @@ prove() {
     status=$?
     if [ "$status" -ne 0 ]; then
         tail -n 20 "$log" >&2
-        mv "$log" "$root/target/$2.log"
-        echo "$2 is not proved; target/$2.log has all that rt said" >&2
+        mv "$log" "$root/target/$3.log"
+        echo "$3 is not proved; target/$3.log has all that rt said" >&2
         return 1
     fi
     rm -f "$log"
 }
 
 prove_shown() {
-    prove_alone "$2" "$3" 9>"$root/target/prove.lock" 2>&1 | tee "$1" | show_progress "$3"
+    prove_alone "$2" "$3" "$4" 9>"$root/target/prove.lock" 2>&1 | tee "$1" | show_progress "$4"
     return "${PIPESTATUS[0]}"
 }
 
-# Two at once would prove into one folder and spoil each other's result.
+# What is made has the age of the work's begin: a source that is changed meanwhile is newer. `rt run` also runs the program, on no input.
 prove_alone() {
-    cd "$root" || return
+    local status
     ! command -v flock >/dev/null || flock -n 9 || { echo "rt: another command proves it: waiting"; flock 9; }
-    rt "$1" "$2"
+    : >"$1.begin"
+    (cd "$root/crates/$3" && rt "$2") && take_made "$(made_of "$3")" "$1" "$1.begin"
+    status=$?
+    rm -f "$1.begin"
+    return "$status"
 }
 
+# The kit says which crate it begins, and after the lines of its functions whether it is proved. A crate's number is its place among those below.
 show_progress() {
-    local line number=0 told= total doing=proving
-    total=$(sed -n "s/^$1: *//p" "$root/crates.txt" | tr ' ' '\n' | grep -cvxE 'io|libc|os')
-    [ -e "$root/target/stamp/$1" ] || tell_wait "$1"
+    local line crate= began=0 told= total number doing=proving
+    total=$(crates_below "$1" | grep -c .)
+    [ -d "$root/crates/$1/out" ] || tell_wait "$1"
     with_ticks | while IFS= read -r line; do
         case $line in
-        'rt: '*' proved ('*) number=$((number + 1)) ;;
-        ' .. '* | 'rt: another command '*) tell_wait "$1"; printf '  %s\n' "${line#rt: }" >&2; continue ;;
-        *) continue ;;
+        'rt: chose '*' for '*) crate=${line##* for } began=$SECONDS ;;
+        'logic=proved '*)
+            tell_wait "$1"
+            number=$({ crates_below "$1"; echo "$1"; } | grep -nxF -- "$crate" | sed 's/:.*//')
+            printf '  %2d of %d: %s proved (%d s)\n' "${number:-0}" $((total + 1)) "$crate" $((SECONDS - began)) >&2
+            ;;
+        ' .. '* | 'rt: another command '* | 'rt: waiting for '* | *': another copy of the repository '*) tell_wait "$1"; printf '  %s\n' "${line#rt: }" >&2 ;;
         esac
-        case $line in *'(unchanged '*) continue ;; esac
-        tell_wait "$1"
-        printf '  %2d of %d: %s\n' "$number" $((total + 1)) "${line#rt: }" >&2
     done
 }
 

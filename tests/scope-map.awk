@@ -9,23 +9,33 @@ function wrong(what) { print "SCOPE-MAP.md:" start ": " what; failed = 1 }
 
 # ---- the crates
 
-# The words of a line: no comment, no field of a record (` .name`). An operator `_+_` is the word +.
-function words_of(line) {
+# The words of a line: no comment, no field of a value (`r.name`); of a name in a type or a module (`Call.push`, `objects.answer` under its name by
+# `as`) both parts. An operator `◌+◌` is the word +.
+function words_of(line,    i, n, list, name, words) {
     sub(/--.*/, "", line)
-    gsub(/ \.[a-zA-Z][^ ()]*/, " ", line)
-    gsub(/[][(){},;._]/, " ", line)
-    return line " "
+    gsub(/◌/, "", line)
+    gsub(/[][(){},;]/, " ", line)
+    n = split(line, list, " ")
+    for (i = 1; i <= n; i++) {
+        name = list[i]
+        sub(/\..*/, "", name)
+        if (name ~ /^[A-Z]/ || name in alias) gsub(/\./, " ", list[i]); else list[i] = name
+        words = words " " list[i]
+    }
+    return words " "
 }
 
 # A name of a specification or a law: what follows is its text.
 function declare(name) {
     owner = name
-    gsub(/_/, "", name)
+    gsub(/◌/, "", name)
     node = crate "\t" name
     if (!(node in text)) { text[node] = " "; holders[name] = holders[name] " " crate }
 }
 
-FNR == 1 { split(FILENAME, path, "/"); crate = path[2]; kind = path[1] == "docs" ? "map" : path[3]; node = fn = impl = "" }
+FNR == 1 { split(FILENAME, path, "/"); crate = path[2]; kind = path[1] == "docs" ? "map" : path[3]; node = fn = impl = ""; split("", alias) }
+
+/^(pub |ghost )?use .* as [^ ]+$/ { alias[$NF] = 1 }
 
 FILENAME == "crates.txt" && /^[a-z]/ { n = split($0, part, /[: ]+/); for (i = 2; i <= n; i++) below[part[1], part[i]] = 1 }
 
@@ -87,7 +97,7 @@ function trace(carrier,    i, n, part) {
 # Puts what a name of the map stands for into `found`: `name`, `crate: name`, or `Record .field`, which is taken as its record.
 function nodes_of(name,    i, n, m, near) {
     sub(/ \..*/, "", name)
-    gsub(/_/, "", name)
+    gsub(/◌/, "", name)
     if (split(name, near, ": ") == 2) { found[1] = near[1] "\t" near[2]; return found[1] in text }
     n = split(holders[name], near, " ")
     for (i = 1; i <= n; i++) found[i] = near[i] "\t" name
@@ -126,7 +136,7 @@ function check_block(    i, k, cited) {
     }
     if (says ~ /the three draws of crate view/) add_functions("^view::draw_")
     else if (says ~ /the three draws/) add_functions("^gles_draws::draw_")
-    if (says ~ /entries/) add_functions("^gles_")
+    if (says ~ /entries/) add_functions("^gles_(arrays|buffers|draws|matrix|pipeline)::")
     for (k = 1; k <= definitions; k++) {
         names++
         cited = carriers == 0 || definition[k] ~ /::|\//

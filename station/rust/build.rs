@@ -25,7 +25,7 @@ fn main() {
     let places = folders.iter().flat_map(|folder| NAMES.map(|name| (folder, name)));
     let Some((folder, name)) = places.into_iter().find(|(f, n)| file(f, n).is_file()) else {
         eprintln!(
-            "libstation.a is in none of {folders:?}: make it by `rt staticlib station` in the \
+            "libstation.a is in none of {folders:?}: make it by `station/library` in the \
              repository, or name its folder in BEONASUL_LIB"
         );
         exit(1);

@@ -28,8 +28,8 @@
 //! elsewhere.
 //!
 //! The build takes the library `libstation.a` from the folder that the variable `BEONASUL_LIB`
-//! names, else from the repository's target/staticlib, where `rt staticlib station` puts it, else
-//! from where `./install` put it.
+//! names, else from the repository's target/staticlib, where `station/library` puts it, else from
+//! where `./install` put it.
 
 #![deny(missing_docs)]
 
