@@ -1,14 +1,14 @@
 -- `address_of`, case by case: the width, the length and the stride are as the code holds them. Assumes nothing.
 use Prim.Native.Nat.{ℕ, ◌+◌, ◌*◌, ◌^◌, ◌<◌, ◌≤◌}
-use mathlib.Core.Bool.{Bool, true, false, cond, ◌||◌}
-use mathlib.Core.Path.{◌≡◌, refl, sym, subst⁻¹}
+use mathlib.Core.Bool.{cond}
+use mathlib.Core.Path.{◌≡◌, sym, subst⁻¹}
 use native.Mathlib.Nat.{le_of_lt, lt_of_le_of_lt, mul-le-mul, mul-le-mul_left, mul-lt-mul_of_pos_right}
 use native.Mathlib.Omega.{arith}
-use lib.Dec.{eqb, ltb}
+use lib.Dec.{eqb}
 use lib.Pow.{pow_pos, pow-add}
-use borrow.Author.Tests.{lt-ltb, le-ltb, eq-eqb, ne_eqb, eqb-false}
+use borrow.Author.Tests.{lt-ltb, le-ltb, eq-eqb, ne_eqb}
 use Rattle.fetch.specs.Decode.{component_bytes}
-use Rattle.fetch.specs.Fetch.{Address, address_at, unknown_type, overflow, last_address, element_bytes, stride_of, address_of}
+use Rattle.fetch.specs.Fetch.{address_at, unknown_type, overflow, last_address, address_of}
 use Rattle.fetch.specs.declared.ArrayPointer.{ArrayPointer}
 
 -- the product of two numbers of k bits has at most k + k

@@ -1,7 +1,6 @@
 -- `assembly::assemble` meets its contract, from what the inner functions ensure.
 use Rattle.vertex.specs.SceneCode.{scene_in}
 use Rattle.vertex.proofs.Vertices.{assembled}
-use borrow.Author.Rules.{rules}
 use Rattle.assembly.proofs.assemble.Goals as goal
 
 pub color_at-color-requires : goal.color_at-color-requires

@@ -7,7 +7,6 @@ use Rattle.vertex.specs.SceneCode.{scene_in}
 use Rattle.vertex.specs.Vertex.{element_of}
 use Rattle.vertex.proofs.Vertices.{color_off, color_from}
 use Rattle.assembly.proofs.Fetching.{own_array}
-use borrow.Author.Rules.{rules}
 use Rattle.assembly.proofs.color_at.Goals as goal
 
 pub returns-then-not-e : goal.returns-then-not-e

@@ -1,5 +1,4 @@
 -- `assembly::color_components` meets its contract: each type by itself.
-use borrow.Author.Rules.{rules}
 use Rattle.assembly.proofs.color_components.Goals as goal
 
 pub unsigned_bytes-requires : goal.unsigned_bytes-requires

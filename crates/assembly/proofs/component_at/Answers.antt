@@ -2,7 +2,6 @@
 use Prim.Native.Nat.{◌*◌, ◌<◌}
 use mathlib.Core.Path.{ap, ◌∙◌}
 use native.Mathlib.Omega.{arith}
-use borrow.Author.Rules.{rules}
 use borrow.Author.Tests.{lt-ltb, le-ltb}
 use Rattle.fetch.specs.Decode.{component_bytes, component_of}
 use Rattle.assembly.proofs.Addresses.{below}

@@ -2,7 +2,6 @@
 use mathlib.Core.Path.{sym, ap, ◌∙◌}
 use Rattle.fetch.specs.declared.Fetched.{Fetched}
 use Rattle.vertex.specs.Vertex.{components_or, origin, pair_from}
-use borrow.Author.Rules.{rules}
 use Rattle.assembly.proofs.coordinates.Goals as goal
 
 pub returns-in-Components : goal.returns-in-Components

@@ -3,7 +3,6 @@ use Prim.Native.Nat.{ℕ}
 use mathlib.Core.Path.{ap, ◌∙◌}
 use lib.ListN.{get_or}
 use Rattle.vertex.specs.SceneCode.{index_list}
-use borrow.Author.Rules.{rules}
 use Rattle.assembly.proofs.corner_index.Goals as goal
 
 pub returns : goal.returns

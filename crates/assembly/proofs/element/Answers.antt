@@ -4,7 +4,6 @@ use native.Mathlib.Nat.{add-sub_cancel_left}
 use native.Mathlib.Omega.{arith}
 use lib.ListN.{length}
 use borrow.Author.Tests.{eq-eqb, ne_eqb}
-use borrow.Author.Rules.{rules}
 use Rattle.assembly.proofs.element.Goals as goal
 use Rattle.assembly.proofs.element.Goals.{Else-buffer-eq0, Then-buffer-eq0}
 

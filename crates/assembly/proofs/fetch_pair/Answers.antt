@@ -1,15 +1,9 @@
 -- `assembly::fetch_pair` meets its contract: where the element lies, then its components.
 use mathlib.Core.Bool.{false}
-use mathlib.Core.Path.{◌≡◌, sym, ap, ◌∙◌}
+use mathlib.Core.Path.{sym, ap, ◌∙◌}
 use lib.ListN.{length}
 use Rattle.fetch.proofs.Parts.{part_length}
-use Rattle.fetch.specs.FetchCode.{part_source}
-use Rattle.vertex.specs.SceneCode.{scene_in}
-use Rattle.vertex.specs.Vertex.{element_of}
-use Rattle.assembly.specs.ElementsCode.{location_of, Locates}
-use Rattle.assembly.specs.declared.Location.{Location}
 use Rattle.assembly.proofs.Fetching.{found, components_are}
-use borrow.Author.Rules.{rules}
 use Rattle.assembly.proofs.fetch_pair.Goals as goal
 
 pub element-part-requires : goal.element-part-requires

@@ -1,5 +1,4 @@
 -- `assembly::has_stage` meets its contract: the bit is that of the unit.
-use borrow.Author.Rules.{rules}
 use Rattle.assembly.proofs.has_stage.Goals as goal
 
 pub returns : goal.returns

@@ -2,7 +2,6 @@
 use mathlib.Core.Bool.{false}
 use mathlib.Core.Path.{sym, ap}
 use Rattle.fetch.specs.Fetch.{position_number}
-use borrow.Author.Rules.{rules}
 use Rattle.assembly.proofs.location_number.Goals as goal
 
 pub returns-in-At : goal.returns-in-At

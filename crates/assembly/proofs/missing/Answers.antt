@@ -1,6 +1,5 @@
 -- `assembly::missing` meets its contract: each arm is the case of the failure.
 use borrow.Author.Tests.{lt-ltb, le-ltb}
-use borrow.Author.Rules.{rules}
 use Rattle.assembly.proofs.missing.Goals as goal
 
 pub returns-in-UnknownType : goal.returns-in-UnknownType

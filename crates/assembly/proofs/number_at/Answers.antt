@@ -1,10 +1,6 @@
 -- `assembly::number_at` meets its contract, by the law on the number of a part at each of the three widths.
-use Prim.Native.Nat.{ℕ, ◌<◌}
-use mathlib.Core.Path.{◌≡◌}
 use native.Mathlib.Nat.{add-zero}
 use native.Mathlib.Omega.{arith}
-use lib.ListN.{get_or}
-use borrow.Author.Rules.{rules}
 use Rattle.number.proofs.LittleEndian.{endian_part}
 use Rattle.assembly.proofs.Widths.{width_four}
 use Rattle.assembly.proofs.number_at.Goals as goal

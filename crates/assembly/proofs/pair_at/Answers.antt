@@ -8,7 +8,6 @@ use Rattle.vertex.specs.SceneCode.{scene_in}
 use Rattle.vertex.specs.Vertex.{element_of, components_or, origin, pair_from}
 use Rattle.vertex.proofs.Vertices.{pair_none, pair_off, pair_on}
 use Rattle.assembly.proofs.Fetching.{own_array}
-use borrow.Author.Rules.{rules}
 use Rattle.assembly.proofs.pair_at.Goals as goal
 
 pub has_stage-requires : goal.has_stage-requires

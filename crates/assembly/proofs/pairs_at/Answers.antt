@@ -2,7 +2,6 @@
 use mathlib.Core.Path.{refl}
 use Rattle.vertex.specs.SceneCode.{scene_in}
 use Rattle.vertex.proofs.Vertices.{texcoords_are}
-use borrow.Author.Rules.{rules}
 use Rattle.assembly.proofs.pairs_at.Goals as goal
 
 pub pair_at-t0-requires : goal.pair_at-t0-requires

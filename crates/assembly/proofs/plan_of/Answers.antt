@@ -3,7 +3,6 @@ use mathlib.Core.Path.{subst}
 use Rattle.fetch.specs.declared.ArrayPointer.{ArrayPointer}
 use Rattle.vertex.specs.SceneCode.{scene_in}
 use Rattle.assembly.specs.ElementsCode.{PreparesFor}
-use borrow.Author.Rules.{rules}
 use Rattle.assembly.proofs.plan_of.Goals as goal
 
 pub returns : goal.returns

@@ -6,7 +6,6 @@ use Rattle.vertex.specs.SceneCode.{scene_in}
 use Rattle.vertex.specs.Vertex.{element_of}
 use Rattle.vertex.proofs.Vertices.{position_from}
 use Rattle.assembly.proofs.Fetching.{own_array}
-use borrow.Author.Rules.{rules}
 use Rattle.assembly.proofs.position_at.Goals as goal
 
 pub fetch_position-f-requires : goal.fetch_position-f-requires

@@ -1,5 +1,4 @@
 -- `assembly::position_components` meets its contract: each type by itself.
-use borrow.Author.Rules.{rules}
 use Rattle.assembly.proofs.position_components.Goals as goal
 
 pub floats-requires : goal.floats-requires

@@ -1,7 +1,6 @@
 -- `assembly::position_number_at` meets its contract, from what the inner functions ensure.
 use Rattle.vertex.specs.SceneCode.{scene_in, index_list}
 use Rattle.assembly.proofs.Fetching.{position_asked}
-use borrow.Author.Rules.{rules}
 use Rattle.assembly.proofs.position_number_at.Goals as goal
 
 pub returns : goal.returns

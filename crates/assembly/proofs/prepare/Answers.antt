@@ -1,12 +1,10 @@
 -- `assembly::prepare` meets its contract: each way out is a case of the law on prepared arrays.
-use Prim.Native.Nat.{ℕ, ◌*◌, ◌≤◌}
-use mathlib.Core.Path.{◌≡◌, refl, sym, ap, subst, ◌∙◌}
+use Prim.Native.Nat.{ℕ, ◌*◌}
+use mathlib.Core.Path.{refl, sym, ap, subst, ◌∙◌}
 use native.Mathlib.Omega.{arith}
 use borrow.Author.Tests.{not-true, not-false}
 use Rattle.buffers.specs.Objects.{contents_of}
-use Rattle.fetch.specs.Fetch.{last_address, stride_of, part_of}
-use Rattle.fetch.specs.FetchCode.{part_source}
-use Rattle.fetch.proofs.Extents.{Covers, covers}
+use Rattle.fetch.proofs.Extents.{covers}
 use Rattle.assembly.specs.ElementsCode.{Prepares}
 use Rattle.assembly.specs.declared.Failure.{Failure}
 use Rattle.assembly.proofs.Addresses.{below}

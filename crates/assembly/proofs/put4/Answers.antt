@@ -2,7 +2,6 @@
 use native.Mathlib.Numerals.{add-one}
 use native.Mathlib.Omega.{arith}
 use lib.ListN.{length-set}
-use borrow.Author.Rules.{rules}
 use Rattle.assembly.proofs.put4.Goals as goal
 
 pub bounds-out-b : goal.bounds-out-b

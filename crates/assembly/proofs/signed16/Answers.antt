@@ -2,7 +2,6 @@
 use Prim.Native.Nat.{◌-◌}
 use native.Mathlib.Omega.{arith}
 use mir.Syntax.{w16}
-use borrow.Author.Rules.{rules}
 use Rattle.number.proofs.TwosComplement.{flipped_fits, upright, negative}
 use Rattle.assembly.proofs.signed16.Goals as goal
 

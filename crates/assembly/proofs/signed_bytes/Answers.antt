@@ -1,7 +1,6 @@
 -- `assembly::signed_bytes` meets its contract: its components are those that `component_at` gives.
 use native.Mathlib.Omega.{arith}
-use Rattle.fetch.specs.Decode.{component_bytes, component_of, vector_of}
-use borrow.Author.Rules.{rules}
+use Rattle.fetch.specs.Decode.{component_bytes, vector_of}
 use Rattle.assembly.proofs.signed_bytes.Goals as goal
 
 pub component_at-x-requires : goal.component_at-x-requires

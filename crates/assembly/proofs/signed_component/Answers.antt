@@ -1,7 +1,6 @@
 -- `assembly::signed_component` meets its contract: each return is the case of the flag.
 use mir.Syntax.{w16}
 use mir.ValLaws.{to_z-of_z}
-use borrow.Author.Rules.{rules}
 use Rattle.assembly.proofs.signed_component.Goals as goal
 
 pub returns-then-normalize : goal.returns-then-normalize

@@ -1,7 +1,6 @@
 -- `assembly::step_of` meets its contract: each return is the case that its tests say.
 use native.Mathlib.Omega.{arith}
 use borrow.Author.Tests.{eq-eqb, ne_eqb}
-use borrow.Author.Rules.{rules}
 use Rattle.assembly.proofs.step_of.Goals as goal
 
 pub returns-then-stride-ne0 : goal.returns-then-stride-ne0

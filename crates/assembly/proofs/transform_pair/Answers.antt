@@ -1,5 +1,4 @@
 -- `assembly::transform_pair` meets its contract, from what `transform` ensures.
-use borrow.Author.Rules.{rules}
 use Rattle.assembly.proofs.transform_pair.Goals as goal
 
 pub returns : goal.returns

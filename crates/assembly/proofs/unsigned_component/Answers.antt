@@ -1,5 +1,4 @@
 -- `assembly::unsigned_component` meets its contract: each return is the case of the flag.
-use borrow.Author.Rules.{rules}
 use Rattle.assembly.proofs.unsigned_component.Goals as goal
 
 pub returns-then-normalize : goal.returns-then-normalize

@@ -1,8 +1,6 @@
 -- `assembly::validate` meets its contract: the questions in their order.
 use mathlib.Core.Path.{sym, ◌∙◌}
-use borrow.Author.Tests.{not-true, not-false}
 use Rattle.vertex.proofs.Questions.{no_vertices, no_position, no_mode, no_triangles, all_answered}
-use borrow.Author.Rules.{rules}
 use Rattle.assembly.proofs.validate.Goals as goal
 
 pub returns-then-not-has_vertices : goal.returns-then-not-has_vertices

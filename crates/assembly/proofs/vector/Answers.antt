@@ -1,7 +1,5 @@
 -- `assembly::vector` meets its contract: each type by itself.
-use mathlib.Core.Path.{◌≡◌}
 use Rattle.assembly.proofs.Widths.{last_type}
-use borrow.Author.Rules.{rules}
 use Rattle.assembly.proofs.vector.Goals as goal
 
 pub floats-requires : goal.floats-requires

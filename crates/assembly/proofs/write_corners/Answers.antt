@@ -7,7 +7,6 @@ use Rattle.vertex.specs.SceneCode.{scene_in, index_list}
 use Rattle.vertex.specs.declared.Vertex.{Vertex}
 use Rattle.assembly.specs.Triangles.{vertex_at}
 use Rattle.assembly.proofs.CornerLists.{corners_front}
-use borrow.Author.Rules.{rules}
 use Rattle.assembly.proofs.write_corners.Goals as goal
 
 pub returns-then-out-n : goal.returns-then-out-n

@@ -1,17 +1,12 @@
 -- `assembly::write_planned` meets its contract: the first c corners are stored.
-use Prim.Native.Nat.{ℕ, ◌-◌, ◌*◌, ◌≤◌}
-use mathlib.Core.List.{List}
+use Prim.Native.Nat.{ℕ, ◌*◌}
 use mathlib.Core.Path.{◌≡◌, refl, ap, ◌∙◌}
 use native.Mathlib.Omega.{arith}
 use lib.ListN.{length}
 use lib.Seq.{sets, length-sets}
-use Rattle.corners.specs.Places.{corner_place}
-use Rattle.corners.specs.declared.Primitive.{Primitive}
-use Rattle.vertex.specs.Scene.{Scene}
 use Rattle.vertex.specs.Vertex.{vertex_words, vertex_of}
 use Rattle.vertex.specs.SceneCode.{scene_in, index_list}
 use Rattle.vertex.specs.declared.Vertex.{Vertex}
-use Rattle.assembly.specs.Triangles.{vertex_at}
 use Rattle.assembly.specs.CornersCode.{corner_words}
 use Rattle.assembly.proofs.Written.{sets_then, length_corners, corners_more}
 use borrow.Author.Rules.{rules}

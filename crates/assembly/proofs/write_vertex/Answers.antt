@@ -8,7 +8,6 @@ use Rattle.vertex.specs.declared.Vertex.{Vertex}
 use lib.Seq.{sets, length-sets}
 use lib.ListN.{length, set}
 use mathlib.Core.Path.{◌≡◌, refl, ap, ◌∙◌}
-use borrow.Author.Rules.{rules}
 use Rattle.assembly.proofs.write_vertex.Goals as goal
 
 -- the stores, one run after the other

@@ -9,7 +9,6 @@ use Rattle.assembly.specs.Triangles.{words_of}
 use Rattle.draw.specs.Draw.{triangles_of}
 use Rattle.draw.proofs.Drawing.{triangles_are, refused_draw, no_room, drawn}
 use Rattle.assembly.proofs.Triangles.{count_triangles}
-use borrow.Author.Rules.{rules}
 use Rattle.draw.proofs.draw_indices.Goals as goal
 
 pub returns-then-number-ne0 : goal.returns-then-number-ne0

@@ -2,7 +2,6 @@
 use mathlib.Core.Path.{refl}
 use Rattle.vertex.proofs.Sources.{view_refuses, view_passes}
 use Rattle.draw.proofs.Drawing.{draw_refused, draw_listed}
-use borrow.Author.Rules.{rules}
 use Rattle.draw.proofs.draw_list.Goals as goal
 
 pub returns-then-number-ne0 : goal.returns-then-number-ne0

@@ -4,7 +4,6 @@ use Prim.Native.Nat.{ℕ, ◌-◌}
 use Rattle.vertex.specs.Index.{up_from}
 use Rattle.vertex.proofs.Sources.{view_refuses, view_passes}
 use Rattle.draw.proofs.Drawing.{draw_refused, draw_by_list}
-use borrow.Author.Rules.{rules}
 use Rattle.draw.proofs.draw_range.Goals as goal
 
 pub returns-then-number-ne0 : goal.returns-then-number-ne0

@@ -4,7 +4,6 @@ use mathlib.Core.Path.{sym, ◌∙◌}
 use Rattle.vertex.specs.SceneCode.{scene_in}
 use Rattle.vertex.proofs.Sources.{view_refuses, view_passes, product_fits, stored_refused, stored_none, stored_some, width_there, stored_indices}
 use Rattle.draw.proofs.Drawing.{draw_refused, draw_by_list, empty_draw}
-use borrow.Author.Rules.{rules}
 use Rattle.draw.proofs.draw_stored.Goals as goal
 
 pub returns-then-view-ne0 : goal.returns-then-view-ne0

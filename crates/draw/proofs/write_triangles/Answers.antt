@@ -5,7 +5,6 @@ use lib.Seq.{sets}
 use Rattle.vertex.specs.SceneCode.{scene_in, index_list}
 use Rattle.assembly.specs.Triangles.{vertex_at}
 use Rattle.assembly.proofs.CornerLists.{triangles_front}
-use borrow.Author.Rules.{rules}
 use Rattle.draw.proofs.write_triangles.Goals as goal
 
 pub overflow_mul-count : goal.overflow_mul-count

@@ -4,7 +4,6 @@ use native.Mathlib.Nat.{add-zero}
 use native.Mathlib.Omega.{arith}
 use Rattle.number.proofs.LittleEndian.{endian_part}
 use Rattle.vertex.proofs.IndexLists.{numbers_in, numbers_out}
-use borrow.Author.Rules.{rules}
 use Rattle.vertex.proofs.byte_index.Goals as goal
 
 pub overflow_cast-result : goal.overflow_cast-result

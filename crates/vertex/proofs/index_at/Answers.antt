@@ -1,5 +1,4 @@
 -- `vertex::index_at` meets its contract: each arm is the case of the kind.
-use borrow.Author.Rules.{rules}
 use Rattle.vertex.proofs.index_at.Goals as goal
 
 pub returns-in-List : goal.returns-in-List

@@ -1,7 +1,6 @@
 -- `vertex::index_count` meets its contract: each arm is the case of the kind.
 use mathlib.Core.Path.{sym, ◌∙◌}
 use Rattle.vertex.proofs.IndexLists.{length_up_from, length_numbers}
-use borrow.Author.Rules.{rules}
 use Rattle.vertex.proofs.index_count.Goals as goal
 
 pub returns-in-List : goal.returns-in-List

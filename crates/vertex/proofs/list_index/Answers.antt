@@ -1,7 +1,6 @@
 -- `vertex::list_index` meets its contract: past the end the list has no element.
 use lib.ListN.{get_or-eq_default}
 use mathlib.Core.Path.{sym}
-use borrow.Author.Rules.{rules}
 use Rattle.vertex.proofs.list_index.Goals as goal
 
 pub returns : goal.returns

@@ -1,6 +1,5 @@
 -- `vertex::part_number` meets its contract: each arm is the case of the state.
 use borrow.Author.Tests.{eq-eqb, ne_eqb}
-use borrow.Author.Rules.{rules}
 use Rattle.vertex.proofs.part_number.Goals as goal
 
 pub returns-in-Found : goal.returns-in-Found

@@ -3,7 +3,6 @@ use mathlib.Core.Path.{sym}
 use Prim.Native.Nat.{◌-◌}
 use native.Mathlib.Omega.{arith}
 use Rattle.vertex.proofs.IndexLists.{up_from_in, up_from_out}
-use borrow.Author.Rules.{rules}
 use Rattle.vertex.proofs.range_index.Goals as goal
 
 pub returns-then-end-first : goal.returns-then-end-first

@@ -5,7 +5,6 @@ use native.Mathlib.Nat.{add-zero}
 use native.Mathlib.Omega.{arith}
 use Rattle.number.proofs.LittleEndian.{endian_part}
 use Rattle.vertex.proofs.IndexLists.{numbers_in, numbers_out}
-use borrow.Author.Rules.{rules}
 use Rattle.vertex.proofs.short_index.Goals as goal
 
 pub returns-then-i-elements : goal.returns-then-i-elements

@@ -4,7 +4,6 @@ use Rattle.vertex.specs.SceneCode.{scene_in}
 use mathlib.Core.Path.{ap, ◌∙◌}
 use Rattle.vertex.specs.Questions.{part_number}
 use Rattle.vertex.proofs.Sources.{widths, product_fits, quotient_not_less, no_type, part_asked}
-use borrow.Author.Rules.{rules}
 use Rattle.vertex.proofs.stored_number.Goals as goal
 
 pub returns-then-width-eq0 : goal.returns-then-width-eq0
