@@ -10,7 +10,7 @@ returns-then-not-h c = not_going _ c.if-not-h.true
 
 pub returns-then-is_permitted : goal.returns-then-is_permitted
 returns-then-is_permitted c =
-    let read-record = c.read-record.ensures in
+    let read-record = c.read_record-h.ensures in
     λ e. comes (read-record e) _ c.first_words.ensures _ c.is_permitted.ensures c.if-is_permitted.true
 
 pub returns : goal.returns

@@ -15,4 +15,4 @@ pub returns : goal.returns
 returns c =
     let a = c.args in
     let if1 = c.if-body-size.false in
-    λ _. rw (length_front a.body.now _ a.size c.read_full.auto.1.0) if1
+    λ _. rw (length_front a.body.now _ a.size c.read_full.auto.buf) if1

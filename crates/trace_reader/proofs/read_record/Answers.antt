@@ -1,5 +1,4 @@
 -- `reader::read_record` meets its contract.
-use borrow.Author.Tests.{not-false}
 use Rattle.trace_reader.proofs.Going.{stopped, read_from}
 use Rattle.trace_reader.proofs.Reading.{words_read_law}
 use borrow.Author.Rules.{rules}
@@ -19,11 +18,7 @@ returns-then-not-read_body c = stopped _ c.stop-then-not-read_body.ensures
 
 pub returns : goal.returns
 returns c =
-    let w = c.before.args.w.now in
-    let n = c.Opening-of.result.n in
-    let read-body = c.read-body in
-    let if4 = c.if4.false in
-    let fits = read-body.ensures (not-false read-body.result if4) in
-    let bytes-at = c.bytes-at.ensures in
-    let read-words = c.read-words.ensures in
-    λ g. read_from n _ w _ fits (words_read_law _ w n fits bytes-at read-words) c.first_words.ensures (c.checked.ensures g)
+    let w = c.args.w.now in
+    let n = c.opening_of-opening.result.n in
+    let fits = c.read_body.ensures c.if-not-read_body.false in
+    λ g. read_from n _ w _ fits (words_read_law _ w n fits c.bytes_at.ensures c.read_words.ensures) c.first_words.ensures (c.checked.ensures g)

@@ -1,16 +1,17 @@
 -- `perform` meets its contract. It lends parts of the store and of the output, held within them.
-use mathlib.Core.Logic.{⊎_elim}
 use native.Mathlib.Omega.{arith}
 use Rattle.list_words.specs.Words.{word_at}
 use Rattle.list_words.proofs.Words.{held_count}
 use Rattle.trace_session.proofs.Done.{drawn, called, others}
 use borrow.Author.Rules.{rules}
 use Rattle.trace_session.proofs.perform.Goals as goal
+use Rattle.trace_session.proofs.perform.Goals.{then-code-lt112+else-code-ge96+else-code-ge16, else-code-lt112}
+use Prim.Native.Nat.{◌<◌}
 
 pub slice_bounds-make_draw-end-then-code-ge96 : goal.slice_bounds-make_draw-end-then-code-ge96
 slice_bounds-make_draw-end-then-code-ge96 c =
-    let a = c.before.args in
-    let room_of = c.room_of.ensures in
+    let a = c.args in
+    let room_of = c.room_of-end.ensures in
     held_count a.out.now (word_at a.w.now 2) _ room_of
 
 pub slice_bounds-make_call-end-then-code-ge16 : goal.slice_bounds-make_call-end-then-code-ge16
@@ -20,10 +21,10 @@ slice_bounds-make_call-end-then-code-ge16 c =
 
 pub returns-then-code-ge96 : goal.returns-then-code-ge96
 returns-then-code-ge96 c =
-    let if1 = c.if1.true in
-    let if2 = c.if2.true in
-    let room_of = c.room_of.ensures in
-    let bytes-at = c.bytes-at.ensures in
+    let if1 = c.if-code-lt112.true in
+    let if2 = c.if-code-ge96.true in
+    let room_of = c.room_of-end.ensures in
+    let bytes-at = c.bytes_at.ensures in
     let bytes-at2 = c.bytes_at-then-code-ge96.ensures in
     drawn _ _ _ _ _ _ _ _ _ _ room_of bytes-at bytes-at2 if2 if1 c.make_draw.ensures
 
@@ -37,7 +38,8 @@ returns-then-code-ge16 c =
 
 pub returns : goal.returns
 returns c =
-    let if1 = c.if1.branch in
-    let fill-areas = c.fill-areas.ensures in
-    others _ _ _ _ _ _ _ (λ h. ⊎_elim (λ p. p.2.left) (λ q. absurd (omega (arith, q.left, h))) if1) c.word_at.ensures
-    c.inspect.ensures fill-areas.0 fill-areas.1
+    let low : c.args.code < 0x70 → c.args.code < 0x10 = λ h. elim c.if-code-lt112.branch [
+      | then-code-lt112+else-code-ge96+else-code-ge16 w ↦ w.if-code-ge16.false
+      | else-code-lt112 w ↦ absurd (omega (arith, w.if-code-lt112.false, h))
+    ] in
+    others _ _ _ _ _ _ _ low c.word_at.ensures c.inspect.ensures c.fill_areas.ensures.store_after c.fill_areas.ensures.guest_after

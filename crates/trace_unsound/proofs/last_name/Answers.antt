@@ -9,18 +9,6 @@ use Rattle.trace_unsound.proofs.last_name.Goals as goal
 pub loop-k-init : goal.loop-k-init
 loop-k-init c = (omega arith, none_yet _)
 
-pub slot_name-requires : goal.slot_name-requires
-slot_name-requires c = tt
-
-pub greater-last-requires : goal.greater-last-requires
-greater-last-requires c = tt
-
-pub overflow_add-k : goal.overflow_add-k
-overflow_add-k c = omega arith
-
-pub loop-k-smaller : goal.loop-k-smaller
-loop-k-smaller c = omega arith
-
 pub loop-k-preserved : goal.loop-k-preserved
 loop-k-preserved c =
     let inv = c.loop-k.invariant.1 in
