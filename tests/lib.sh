@@ -188,7 +188,7 @@ show_progress() {
 }
 
 tell_wait() {
-    [ -n "$told" ] || printf '%s is proved and built first: about 7 minutes from nothing on two free cores, once.\n' "$1" >&2
+    [ -n "$told" ] || printf '%s is proved and built first, once: from nothing this takes minutes.\n' "$1" >&2
     told=1
 }
 
