@@ -6,7 +6,7 @@ use Rattle.replay.proofs.Replaying.{not_going, comes}
 use Rattle.replay.proofs.next_record.Goals as goal
 
 pub returns-then-not-h : goal.returns-then-not-h
-returns-then-not-h c = not_going _ c.if-not-h.true
+returns-then-not-h c = not_going _ (not-true _ c.if-not-h.true)
 
 pub returns-then-is_permitted : goal.returns-then-is_permitted
 returns-then-is_permitted c =

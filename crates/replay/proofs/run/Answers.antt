@@ -21,7 +21,7 @@ loop-record-preserved c =
       done.auto.out ∙ inv.2,
       read.auto.body ∙ inv.3,
       read.auto.w ∙ inv.4,
-      follows _ _ _ _ inv.5 (read.ensures c.if-not-h.false) c.first_words-words.ensures done.ensures c.after-v.ensures c.use_stacks-used.ensures,
+      follows _ _ _ _ inv.5 (read.ensures (not-false _ c.if-not-h.false)) c.first_words-words.ensures done.ensures c.after-v.ensures c.use_stacks-used.ensures,
     )
 
 pub returns-after-loop-record : goal.returns-after-loop-record
