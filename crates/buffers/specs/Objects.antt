@@ -1,5 +1,6 @@
 -- The buffer objects of ES 1.1 that slots and a store stand for. Which slot holds a name, and what the store holds outside live buffers, do not show in them.
-use Rattle.std.specs.Prelude.{ℕ, zero, suc, ◌+◌, ◌*◌, ◌<◌, ◌≤◌, max, Bool, true, false, not, cond, ◌&&◌, ◌||◌, List, [], ◌∷◌, ◌++◌, ◌⊎◌, ◌≡◌, length, get_or, take, drop, replicate, eqb, ltb, leb}
+use Rattle.std.specs.Prelude.{ℕ, zero, suc, ◌+◌, ◌*◌, ◌<◌, ◌≤◌, max, Bool, true, false, not, cond, ◌&&◌, ◌||◌, List, [], ◌∷◌, ◌++◌, ◌⊎◌, ◌≡◌, length, get_or, take, drop, replicate}
+use Rattle.std.specs.Prelude.{eqb, ltb, leb}
 use Rattle.std.proofs.Math.Option.{Option, some, none}
 use Rattle.number.specs.Decides.{Decides}
 use Rattle.number.specs.Bytes.{overwrite}

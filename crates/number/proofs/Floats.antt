@@ -1,5 +1,6 @@
 -- Facts on f32 that the proofs of this crate cite. Assumes nothing.
-use Rattle.std.proofs.Common.{◌≡◌, ℕ, zero, suc, ◌+◌, ◌*◌, ◌/◌, ◌%◌, ◌^◌, ◌<◌, ◌≤◌, Bool, true, false, cond, not, ◌||◌, T, eqb, leb, pos, negsuc, sym, refl, ◌∙◌, subst, true≢false, mod-lt, zero-lt-suc, div-lt_iff_lt-mul, mul-pos, pow-suc, le-div_iff_mul-le, zero-mul, arith, eqb→eq, lt→ltb, pow_pos, ltb-false, ltb-true}
+use Rattle.std.proofs.Common.{◌≡◌, ℕ, zero, suc, ◌+◌, ◌*◌, ◌/◌, ◌%◌, ◌^◌, ◌<◌, ◌≤◌, Bool, true, false, cond, not, ◌||◌, T, eqb, leb, pos, negsuc, sym, refl, ◌∙◌, subst, true≢false}
+use Rattle.std.proofs.Common.{mod-lt, zero-lt-suc, div-lt_iff_lt-mul, mul-pos, pow-suc, le-div_iff_mul-le, zero-mul, arith, eqb→eq, lt→ltb, pow_pos, ltb-false, ltb-true}
 use mathlib.Core.Bool.{beq, false≢true}
 use native.Mathlib.Nat.{mod-mod, mod-mod_of_dvd, dvd-mul_right, min-eq_left, min-eq_right}
 use borrow.Author.Tests.{lt-leb}

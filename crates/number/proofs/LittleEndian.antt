@@ -1,5 +1,6 @@
 -- Little-endian numbers of any width. Assumes nothing.
-use Rattle.std.proofs.Common.{◌≡◌, ℕ, zero, suc, ◌+◌, ◌*◌, ◌/◌, ◌%◌, ◌^◌, ◌<◌, ◌≤◌, List, [], ◌∷◌, length, get_or, take, drop, sym, refl, ap, ◌∙◌, add-zero, add-suc, mod-eq_of_lt, add_comm, mul-le-mul_left, zero-add, mul-suc, div-one, arith, drop-cons, pow-add}
+use Rattle.std.proofs.Common.{◌≡◌, ℕ, zero, suc, ◌+◌, ◌*◌, ◌/◌, ◌%◌, ◌^◌, ◌<◌, ◌≤◌, List, [], ◌∷◌, length, get_or, take, drop, sym, refl, ap, ◌∙◌, add-zero, add-suc, mod-eq_of_lt}
+use Rattle.std.proofs.Common.{add_comm, mul-le-mul_left, zero-add, mul-suc, div-one, arith, drop-cons, pow-add}
 use native.Mathlib.Nat.{pow-succ', zero-div, add-mul-div_left, add-mul-mod_self_left, div-div-eq-div-mul}
 use native.Mathlib.Nat.{div-eq_of_lt}
 use Rattle.number.specs.Numbers.{little_endian}

@@ -1,6 +1,9 @@
 -- Normalised components at any byte width: the ends are exact, the values stay within them and never fall. Rounding keeps the order, and sees only the
 -- value of a fraction (`lib.Ieee`), so nothing is asked of the width but that its largest value is an f32. Assumes nothing.
-use Rattle.std.proofs.Common.{◌≡◌, ℕ, zero, suc, ◌+◌, ◌-◌, ◌*◌, ◌^◌, ◌<◌, ◌≤◌, min, Bool, true, false, cond, not, ◌&&◌, ◌||◌, T, eqb, ltb, ◌⊎◌, ℤ, pos, negsuc, neg_ℤ, ◌≤ℤ◌, sym, refl, ap, ◌∙◌, subst, inl, inr, true≢false, suc-le-suc, zero-le, le_trans, le_of_eq, le_refl, lt_of_lt_of_le, le_of_lt, lt_irrefl, mul-le-mul_right, zero-lt-suc, mul_assoc, mul_comm, eq-or-lt_of_le, mul-pos, zero-mul, mul-one, le_of_mul-le-mul_right, mul_left_comm, arith, lit<, lit≤, eqb→eq, leb→le, pow_pos, pow_mono, ltb-true, le-ltb, lt-ltb, eq-eqb}
+use Rattle.std.proofs.Common.{◌≡◌, ℕ, zero, suc, ◌+◌, ◌-◌, ◌*◌, ◌^◌, ◌<◌, ◌≤◌, min, Bool, true, false, cond, not, ◌&&◌, ◌||◌, T, eqb, ltb, ◌⊎◌, ℤ, pos, negsuc, neg_ℤ, ◌≤ℤ◌, sym}
+use Rattle.std.proofs.Common.{refl, ap, ◌∙◌, subst, inl, inr, true≢false, suc-le-suc, zero-le, le_trans, le_of_eq, le_refl, lt_of_lt_of_le, le_of_lt, lt_irrefl, mul-le-mul_right}
+use Rattle.std.proofs.Common.{zero-lt-suc, mul_assoc, mul_comm, eq-or-lt_of_le, mul-pos, zero-mul, mul-one, le_of_mul-le-mul_right, mul_left_comm, arith, lit<, lit≤, eqb→eq}
+use Rattle.std.proofs.Common.{leb→le, pow_pos, pow_mono, ltb-true, le-ltb, lt-ltb, eq-eqb}
 use native.Mathlib.Nat.{le-suc, pow-succ'}
 use native.Mathlib.Nat.{eq_of_mul-eq-mul_right}
 use lib.Dec.{eqb-suc-zero}

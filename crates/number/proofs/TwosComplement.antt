@@ -1,5 +1,6 @@
 -- Two's complement at any width. Assumes nothing.
-use Rattle.std.proofs.Common.{◌≡◌, ℕ, zero, suc, ◌-◌, ◌*◌, ◌^◌, ◌<◌, ◌≤◌, Bool, true, false, cond, ltb, pos, negsuc, ◌+ℤ◌, ◌-ℤ◌, ◌≤ℤ◌, refl, ap, ◌∙◌, zero-add, arith, le→leb, SFits, to_z, of_z, ltb-false, ltb-true, le-ltb, lt-ltb}
+use Rattle.std.proofs.Common.{◌≡◌, ℕ, zero, suc, ◌-◌, ◌*◌, ◌^◌, ◌<◌, ◌≤◌, Bool, true, false, cond, ltb, pos, negsuc, ◌+ℤ◌, ◌-ℤ◌, ◌≤ℤ◌, refl, ap, ◌∙◌, zero-add, arith, le→leb}
+use Rattle.std.proofs.Common.{SFits, to_z, of_z, ltb-false, ltb-true, le-ltb, lt-ltb}
 use mathlib.Core.Path.{subst⁻¹}
 use mir.Syntax.{Width}
 use mir.Val.{hbits}

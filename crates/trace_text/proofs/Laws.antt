@@ -63,7 +63,13 @@ placed bytes start text part e =
 pub longer : (bytes : List ℕ) (start : ℕ) (text : List ℕ) → start + length text ≤ length bytes → length (overwrite bytes start text) ≡ length bytes
 unfolding overwrite
 longer bytes start text fits =
-    omega (arith, length-append (take start bytes ++ text) (drop (start + length text) bytes), length-append (take start bytes) text, length-take start bytes, length-drop (start + length text) bytes)
+    omega (
+      arith,
+      length-append (take start bytes ++ text) (drop (start + length text) bytes),
+      length-append (take start bytes) text,
+      length-take start bytes,
+      length-drop (start + length text) bytes,
+    )
 
 -- a text put behind a first byte
 pub behind : (b : ℕ) (rest text after : List ℕ) (end : ℕ) → length text ≤ length rest → page after end ≡ put_text (page (b ∷ rest) 1) text → take end after ≡ b ∷ text

@@ -35,4 +35,5 @@ bounds-s-at-5 c = omega (arith, width_four _ c.requires.1 c.if-width-eq1.false c
 pub returns : goal.returns
 returns c =
     rw (width_four _ c.requires.1 c.if-width-eq1.false c.if-width-eq2.false)
-    (endian_part 4 c.args.s.now c.args.at (omega (arith, c.requires.0, width_four _ c.requires.1 c.if-width-eq1.false c.if-width-eq2.false)) (λ i. omega (arith, c.type_inv.s i)) _ (rw (add-zero c.args.at) c.le32.ensures))
+    (endian_part 4 c.args.s.now c.args.at (omega (arith, c.requires.0, width_four _ c.requires.1 c.if-width-eq1.false c.if-width-eq2.false)) (λ i. omega (arith, c.type_inv.s i)) _
+    (rw (add-zero c.args.at) c.le32.ensures))

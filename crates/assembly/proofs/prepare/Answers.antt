@@ -43,7 +43,8 @@ returns-then-not-x c =
     (sym (c.without_elements-then-not-x.ensures
     ∙ (λ i. record { array = args.array; failure = Failure.NoBuffer; len = 0; stride = apart i; low = 1; last = 0; origin = 0 })))
     (of_absent (contents_of args.b.slots args.store.now) args.base args.store.now args.guest.now args.array width
-    c.component_bytes-width.ensures c.if-width-eq0.false (width * args.array.size) refl c.if-len-gt-LAST_ADDRESS.false _ (covers args.b.slots args.store.now args.guest.now args.base args.array.buffer _ c.find_extent-x.ensures)
+    c.component_bytes-width.ensures c.if-width-eq0.false (width * args.array.size) refl c.if-len-gt-LAST_ADDRESS.false _
+    (covers args.b.slots args.store.now args.guest.now args.base args.array.buffer _ c.find_extent-x.ensures)
     (not-true c.find_extent-x.result.known c.if-not-x.true))
 
 pub returns-then-x-len : goal.returns-then-x-len
@@ -55,7 +56,8 @@ returns-then-x-len c =
     (sym (c.without_elements-then-x-len.ensures
     ∙ (λ i. record { array = args.array; failure = Failure.Unreadable; len = 0; stride = apart i; low = 1; last = 0; origin = 0 })))
     (of_short (contents_of args.b.slots args.store.now) args.base args.store.now args.guest.now args.array width
-    c.component_bytes-width.ensures c.if-width-eq0.false (width * args.array.size) refl c.if-len-gt-LAST_ADDRESS.false _ (covers args.b.slots args.store.now args.guest.now args.base args.array.buffer _ c.find_extent-x.ensures)
+    c.component_bytes-width.ensures c.if-width-eq0.false (width * args.array.size) refl c.if-len-gt-LAST_ADDRESS.false _
+    (covers args.b.slots args.store.now args.guest.now args.base args.array.buffer _ c.find_extent-x.ensures)
     (not-false c.find_extent-x.result.known c.if-not-x.false) c.if-x-len.true)
 
 pub overflow_cast-result-2 : goal.overflow_cast-result-2
@@ -71,5 +73,6 @@ returns c =
     (record { array = args.array; failure = Failure.None; len = width * args.array.size; stride = k; low = x.low; last = c.last_address.result; origin = x.origin }))
     (sym apart)
     (of_whole (contents_of args.b.slots args.store.now) args.base args.store.now args.guest.now args.array width
-    c.component_bytes-width.ensures c.if-width-eq0.false (width * args.array.size) refl c.if-len-gt-LAST_ADDRESS.false x (covers args.b.slots args.store.now args.guest.now args.base args.array.buffer _ c.find_extent-x.ensures)
+    c.component_bytes-width.ensures c.if-width-eq0.false (width * args.array.size) refl c.if-len-gt-LAST_ADDRESS.false x
+    (covers args.b.slots args.store.now args.guest.now args.base args.array.buffer _ c.find_extent-x.ensures)
     (not-false x.known c.if-not-x.false) c.if-x-len.false _ c.last_address.ensures)

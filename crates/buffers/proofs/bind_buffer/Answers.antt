@@ -15,13 +15,16 @@ returns-then-not-ok c = bind_full _ (c.sound.ensures.decides.yes c.if-not-sound.
 
 pub returns-then-target-eq-ARRAY_BUFFER : goal.returns-then-target-eq-ARRAY_BUFFER
 returns-then-target-eq-ARRAY_BUFFER c =
-    bind_array_law _ (c.sound.ensures.decides.yes c.if-not-sound.false) _ _ c.if-name-ge-LAST_NAME.false _ _ c.make_name-made.ensures c.if-not-ok.false c.if-target-eq-ARRAY_BUFFER.true
+    bind_array_law _ (c.sound.ensures.decides.yes c.if-not-sound.false) _ _ c.if-name-ge-LAST_NAME.false _ _ c.make_name-made.ensures c.if-not-ok.false
+    c.if-target-eq-ARRAY_BUFFER.true
 
 pub returns-then-target-eq-ELEMENT_ARRAY_BUFFER : goal.returns-then-target-eq-ELEMENT_ARRAY_BUFFER
 returns-then-target-eq-ELEMENT_ARRAY_BUFFER c =
-    bind_element_law _ (c.sound.ensures.decides.yes c.if-not-sound.false) _ _ c.if-name-ge-LAST_NAME.false _ _ c.make_name-made.ensures c.if-not-ok.false c.if-target-eq-ARRAY_BUFFER.false
+    bind_element_law _ (c.sound.ensures.decides.yes c.if-not-sound.false) _ _ c.if-name-ge-LAST_NAME.false _ _ c.make_name-made.ensures c.if-not-ok.false
+    c.if-target-eq-ARRAY_BUFFER.false
     c.if-target-eq-ELEMENT_ARRAY_BUFFER.true
 
 pub returns : goal.returns
 returns c =
-    bind_other _ (c.sound.ensures.decides.yes c.if-not-sound.false) _ _ c.if-name-ge-LAST_NAME.false _ _ c.make_name-made.ensures c.if-not-ok.false c.if-target-eq-ARRAY_BUFFER.false c.if-target-eq-ELEMENT_ARRAY_BUFFER.false
+    bind_other _ (c.sound.ensures.decides.yes c.if-not-sound.false) _ _ c.if-name-ge-LAST_NAME.false _ _ c.make_name-made.ensures c.if-not-ok.false
+    c.if-target-eq-ARRAY_BUFFER.false c.if-target-eq-ELEMENT_ARRAY_BUFFER.false

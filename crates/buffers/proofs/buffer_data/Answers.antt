@@ -11,7 +11,11 @@ use Rattle.buffers.proofs.buffer_data.Goals.{After-find_slot-k}
 found : (c : After-find_slot-k) → c.find_slot-k.result < 16
 found c =
     let args = c.args in
-    omega (arith, c.find_slot-k.ensures, bound_slot _ (c.sound.ensures.decides.yes c.if-not-sound.false) args.store.now args.target _ (c.bound_name-name.ensures c.args.store.now) c.if-name-eq0.false)
+    omega (
+      arith,
+      c.find_slot-k.ensures,
+      bound_slot _ (c.sound.ensures.decides.yes c.if-not-sound.false) args.store.now args.target _ (c.bound_name-name.ensures c.args.store.now) c.if-name-eq0.false,
+    )
 
 pub returns-then-not-sound : goal.returns-then-not-sound
 returns-then-not-sound c = in_invalid _ _ _ (λ s e. c.sound.ensures.decides.no c.if-not-sound.true s)
@@ -52,5 +56,6 @@ set_slot-requires c = found (goal.at.set_slot-requires c).After-find_slot-k
 
 pub returns : goal.returns
 returns c =
-    data_done _ _ _ _ (c.sound.ensures.decides.yes c.if-not-sound.false) c.sound.ensures.slots c.if-store-ne-STORE_BYTES.false (c.bound_name-name.ensures c.args.store.now) c.if-name-eq0.false _ c.find_slot-k.ensures _ _
+    data_done _ _ _ _ (c.sound.ensures.decides.yes c.if-not-sound.false) c.sound.ensures.slots c.if-store-ne-STORE_BYTES.false (c.bound_name-name.ensures c.args.store.now)
+    c.if-name-eq0.false _ c.find_slot-k.ensures _ _
     (sym c.is_target.ensures ∙ c.if-not-is_target.false) c.if-size-gt-SLOT_BYTES.false _ c.set_slot.ensures _ c.write_padded.ensures

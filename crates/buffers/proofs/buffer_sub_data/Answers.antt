@@ -12,7 +12,11 @@ use Rattle.buffers.proofs.buffer_sub_data.Goals.{After-find_slot-k, Else-len-at}
 found : (c : After-find_slot-k) → c.find_slot-k.result < 16
 found c =
     let args = c.args in
-    omega (arith, c.find_slot-k.ensures, bound_slot _ (c.sound.ensures.decides.yes c.if-not-sound.false) args.store.now args.target _ (c.bound_name-name.ensures c.args.store.now) c.if-name-eq0.false)
+    omega (
+      arith,
+      c.find_slot-k.ensures,
+      bound_slot _ (c.sound.ensures.decides.yes c.if-not-sound.false) args.store.now args.target _ (c.bound_name-name.ensures c.args.store.now) c.if-name-eq0.false,
+    )
 
 -- the range lies in its block
 room : (c : Else-len-at) →
@@ -24,7 +28,8 @@ room c =
       arith,
       c.if-len-at.false,
       c.slot_len-len.ensures,
-      slot_small _ args.store.now args.target _ (c.sound.ensures.decides.yes c.if-not-sound.false) c.sound.ensures.slots c.if-store-ne-STORE_BYTES.false (c.bound_name-name.ensures c.args.store.now)
+      slot_small _ args.store.now args.target _ (c.sound.ensures.decides.yes c.if-not-sound.false) c.sound.ensures.slots c.if-store-ne-STORE_BYTES.false
+          (c.bound_name-name.ensures c.args.store.now)
           c.if-name-eq0.false _ c.find_slot-k.ensures,
     )
 
@@ -36,11 +41,13 @@ returns-then-store-ne-STORE_BYTES c = in_invalid _ _ _ (λ s. c.if-store-ne-STOR
 
 pub returns-then-name-eq0 : goal.returns-then-name-eq0
 unfolding sub_data_answer
-returns-then-name-eq0 c = in_same _ _ _ (c.sound.ensures.decides.yes c.if-not-sound.false) c.if-store-ne-STORE_BYTES.false 0x0502 (simp (sub_data_answer, sym (c.bound_name-name.ensures c.args.store.now), eq-eqb _ _ c.if-name-eq0.true))
+returns-then-name-eq0 c = in_same _ _ _ (c.sound.ensures.decides.yes c.if-not-sound.false) c.if-store-ne-STORE_BYTES.false 0x0502
+    (simp (sub_data_answer, sym (c.bound_name-name.ensures c.args.store.now), eq-eqb _ _ c.if-name-eq0.true))
 
 pub returns-then-len-at : goal.returns-then-len-at
 returns-then-len-at c =
-    sub_short _ _ _ _ (c.sound.ensures.decides.yes c.if-not-sound.false) c.sound.ensures.slots c.if-store-ne-STORE_BYTES.false (c.bound_name-name.ensures c.args.store.now) c.if-name-eq0.false _ c.find_slot-k.ensures _ _ _
+    sub_short _ _ _ _ (c.sound.ensures.decides.yes c.if-not-sound.false) c.sound.ensures.slots c.if-store-ne-STORE_BYTES.false (c.bound_name-name.ensures c.args.store.now)
+    c.if-name-eq0.false _ c.find_slot-k.ensures _ _ _
     c.slot_len-len.ensures c.if-len-at.true
 
 pub overflow_mul-k : goal.overflow_mul-k
@@ -50,10 +57,16 @@ pub overflow_add-k : goal.overflow_add-k
 overflow_add-k c = omega (arith, found (goal.at.overflow_add-k c).After-find_slot-k, room (goal.at.overflow_add-k c).Else-len-at)
 
 pub write_padded-requires : goal.write_padded-requires
-write_padded-requires c = omega (arith, found (goal.at.write_padded-requires c).After-find_slot-k, room (goal.at.write_padded-requires c).Else-len-at, c.if-store-ne-STORE_BYTES.false)
+write_padded-requires c = omega (
+  arith,
+  found (goal.at.write_padded-requires c).After-find_slot-k,
+  room (goal.at.write_padded-requires c).Else-len-at,
+  c.if-store-ne-STORE_BYTES.false,
+)
 
 pub returns : goal.returns
 returns c =
-    sub_done _ _ _ _ (c.sound.ensures.decides.yes c.if-not-sound.false) c.sound.ensures.slots c.if-store-ne-STORE_BYTES.false (c.bound_name-name.ensures c.args.store.now) c.if-name-eq0.false _ c.find_slot-k.ensures _ _ _
+    sub_done _ _ _ _ (c.sound.ensures.decides.yes c.if-not-sound.false) c.sound.ensures.slots c.if-store-ne-STORE_BYTES.false (c.bound_name-name.ensures c.args.store.now)
+    c.if-name-eq0.false _ c.find_slot-k.ensures _ _ _
     c.slot_len-len.ensures
     c.if-len-at.false _ c.write_padded.ensures

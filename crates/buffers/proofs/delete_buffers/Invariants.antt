@@ -8,7 +8,8 @@ use Rattle.buffers.proofs.delete_buffers.Given as goal
 
 abbrev pub invariant-loop-i : goal.invariant-loop-i
 invariant-loop-i l =
-    (l.i ≤ length l.names) × ((s : List ℕ) → delete_names (drop l.i l.names) (objects l.out s) ≡ delete_names l.names (objects l.initial.out s)) × Sound l.out × Freed l.initial.out.slots l.out.slots
+    (l.i ≤ length l.names) × ((s : List ℕ) → delete_names (drop l.i l.names) (objects l.out s) ≡ delete_names l.names (objects l.initial.out s)) × Sound l.out × Freed
+    l.initial.out.slots l.out.slots
 
 abbrev pub decreases-loop-i : goal.decreases-loop-i
 decreases-loop-i l = length l.names - l.i

@@ -30,14 +30,28 @@ pub overflow_add-live : goal.overflow_add-live
 overflow_add-live c = omega (arith, c.live_count-live.ensures.1)
 
 pub returns-then-live-n-gt-SLOT_COUNT : goal.returns-then-live-n-gt-SLOT_COUNT
-returns-then-live-n-gt-SLOT_COUNT c = record { answers = answers_same _ _ (c.sound.ensures.decides.yes c.if-not-sound.false) 4 (λ s. gen_full _ _ (omega (arith, live (goal.at.returns-then-live-n-gt-SLOT_COUNT c).After-live_count-live s))); names = refl }
+returns-then-live-n-gt-SLOT_COUNT c = record {
+  answers = answers_same _ _ (c.sound.ensures.decides.yes c.if-not-sound.false) 4
+      (λ s. gen_full _ _ (omega (arith, live (goal.at.returns-then-live-n-gt-SLOT_COUNT c).After-live_count-live s)));
+  names = refl;
+}
 
 pub returns-then-b-n : goal.returns-then-b-n
 returns-then-b-n c =
-    record { answers = answers_same _ _ (c.sound.ensures.decides.yes c.if-not-sound.false) 5 (λ s. gen_past _ _ (few (goal.at.returns-then-b-n c).Else-live-n-gt-SLOT_COUNT s) c.if-b-n.true); names = refl }
+    record {
+      answers = answers_same _ _ (c.sound.ensures.decides.yes c.if-not-sound.false) 5
+          (λ s. gen_past _ _ (few (goal.at.returns-then-b-n c).Else-live-n-gt-SLOT_COUNT s) c.if-b-n.true);
+      names = refl;
+    }
 
 pub loop-left-init : goal.loop-left-init
-loop-left-init c = record { state = λ s. refl; sound = c.sound.ensures.decides.yes c.if-not-sound.false; live = few (goal.at.loop-left-init c).Else-live-n-gt-SLOT_COUNT; next = c.if-b-n.false; slots = filled_same }
+loop-left-init c = record {
+  state = λ s. refl;
+  sound = c.sound.ensures.decides.yes c.if-not-sound.false;
+  live = few (goal.at.loop-left-init c).Else-live-n-gt-SLOT_COUNT;
+  next = c.if-b-n.false;
+  slots = filled_same;
+}
 
 pub make_name-made-requires : goal.make_name-made-requires
 make_name-made-requires c = (c.loop-left.invariant.sound, omega (arith, c.loop-left.invariant.next))

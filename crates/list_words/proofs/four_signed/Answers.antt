@@ -5,4 +5,9 @@ use Rattle.list_words.proofs.four_signed.Goals as goal
 
 pub returns : goal.returns
 returns c =
-    rw (read_back w32 _ c.signed_at.type_inv c.signed_at.ensures, read_back w32 _ c.signed_at-2.type_inv c.signed_at-2.ensures, read_back w32 _ c.signed_at-3.type_inv c.signed_at-3.ensures, read_back w32 _ c.signed_at-4.type_inv c.signed_at-4.ensures)
+    rw (
+      read_back w32 _ c.signed_at.type_inv c.signed_at.ensures,
+      read_back w32 _ c.signed_at-2.type_inv c.signed_at-2.ensures,
+      read_back w32 _ c.signed_at-3.type_inv c.signed_at-3.ensures,
+      read_back w32 _ c.signed_at-4.type_inv c.signed_at-4.ensures,
+    )
