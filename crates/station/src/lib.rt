@@ -670,7 +670,7 @@ pub extern "C" fn beonasul_fresh() -> Kept
     }
 }
 
-// The calls of a list on the kept context.
+// The calls of a list on the kept context: what `run` does, on the borrowed struct. With fewer copies of the context a thread of 64 KB has room for it.
 #[unsafe(no_mangle)]
 pub extern "C" fn beonasul_run(
     kept: &mut Kept,
@@ -682,7 +682,42 @@ pub extern "C" fn beonasul_run(
     ensures { Ran kept.old store.old words.now bytes.now out.old result kept.new store.new
         out.new }
 {
-    let a = run(*kept, store, words, bytes, out);
-    *kept = a.kept;
-    a.reply
+    let settings = kept.settings;
+    if !is_context(kept.mode, settings) {
+        return StationReply {
+            number: INVALID,
+            value: 0,
+            made: 0,
+        };
+    }
+    let stacks = kept.stacks;
+    let buffers = kept.buffers;
+    let arrays = kept.arrays;
+    let attributes = kept.attributes;
+    let c = Context {
+        mode: mode_from(kept.mode),
+        stacks,
+        buffers,
+        arrays,
+        attributes,
+        pipeline: settings_from(settings),
+        error: kept.error,
+    };
+    let r = list_runner::run_on(c, words, bytes, &mut store[..], &mut out[..]);
+    let mode = r.context.mode;
+    let stacks = r.context.stacks;
+    let buffers = r.context.buffers;
+    let arrays = r.context.arrays;
+    let attributes = r.context.attributes;
+    let pipeline = r.context.pipeline;
+    *kept = Kept {
+        mode: mode_code(mode),
+        stacks,
+        buffers,
+        arrays,
+        attributes,
+        settings: kept_settings(pipeline),
+        error: r.context.error,
+    };
+    answer_in(r.read == words.len(), r.number, r.value, r.made)
 }
