@@ -1,6 +1,6 @@
 -- What every entry promises (01: "Questions at the door", "Terms of the contracts").
-use Rattle.std.specs.Prelude.{Bool, true, false, List, ◌⊎◌, ◌≡◌, ℕ, length, Float}
-use Rattle.stack.specs.Stack.{MatrixCall, stack_answer}
+use Rattle.std.specs.Prelude.{true, false, List, ◌⊎◌, ◌≡◌, ℕ, length, Float}
+use Rattle.stack.specs.Stack.{stack_answer}
 use Rattle.stack.specs.declared.MatrixStack.{MatrixStack}
 use Rattle.buffers.specs.Objects.{store_bytes, FreeSlots}
 use Rattle.buffers.specs.declared.Buffers.{Buffers}

@@ -1,8 +1,6 @@
 -- `context::stacks_sound` meets its contract: each of the three is asked.
-use borrow.Author.Tests.{not-true, not-false}
 use Rattle.context.proofs.Entries.{some_unsound, all_sound}
 use Rattle.context.specs.declared.MatrixMode.{MatrixMode}
-use borrow.Author.Rules.{rules}
 use Rattle.context.proofs.stacks_sound.Goals as goal
 
 pub returns-then-not-is_sound : goal.returns-then-not-is_sound

@@ -1,6 +1,5 @@
 -- `gles_arrays::set_client_active_texture` meets its contract, from the call on the arrays.
 use Rattle.context.proofs.Entries.{arrays_do}
-use borrow.Author.Rules.{rules}
 use Rattle.gles_arrays.proofs.set_client_active_texture.Goals as goal
 
 pub returns : goal.returns

@@ -1,6 +1,5 @@
 -- `gles_arrays::set_color` meets its contract, from the call on the current values.
 use Rattle.context.proofs.Entries.{attributes_do}
-use borrow.Author.Rules.{rules}
 use Rattle.gles_arrays.proofs.set_color.Goals as goal
 
 pub returns : goal.returns

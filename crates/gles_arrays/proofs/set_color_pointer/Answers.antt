@@ -1,6 +1,5 @@
 -- `gles_arrays::set_color_pointer` meets its contract, from the call on the arrays.
 use Rattle.context.proofs.Entries.{arrays_do}
-use borrow.Author.Rules.{rules}
 use Rattle.gles_arrays.proofs.set_color_pointer.Goals as goal
 
 pub returns : goal.returns

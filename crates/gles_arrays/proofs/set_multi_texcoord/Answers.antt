@@ -1,6 +1,5 @@
 -- `gles_arrays::set_multi_texcoord` meets its contract, from the call on the current values.
 use Rattle.context.proofs.Entries.{attributes_do}
-use borrow.Author.Rules.{rules}
 use Rattle.gles_arrays.proofs.set_multi_texcoord.Goals as goal
 
 pub returns : goal.returns

@@ -1,8 +1,6 @@
 -- `gles_buffers::delete_buffers` meets its contract, from the call on the buffers.
 use mathlib.Core.Path.{refl}
-use borrow.Author.Tests.{not-true, not-false}
 use Rattle.context.proofs.Entries.{unsound_apart, buffer_does}
-use borrow.Author.Rules.{rules}
 use Rattle.gles_buffers.proofs.delete_buffers.Goals as goal
 
 pub returns-then-not-is_sound_apart : goal.returns-then-not-is_sound_apart

@@ -3,7 +3,6 @@ use lib.ListN.{length}
 use Rattle.vertex.specs.Scene.{list}
 use Rattle.context.specs.Contract.{draw_call}
 use Rattle.context.proofs.Entries.{draw_unready, draw_from_law}
-use borrow.Author.Rules.{rules}
 use Rattle.gles_draws.proofs.draw_elements.Goals as goal
 
 pub returns-then-not-is_ready : goal.returns-then-not-is_ready

@@ -1,7 +1,6 @@
 -- `gles_matrix::frustum` meets its contract, from the current matrix of the mode in force.
 use mathlib.Core.Path.{refl, sym, ◌∙◌}
 use Rattle.context.proofs.Entries.{update_refused, product_does}
-use borrow.Author.Rules.{rules}
 use Rattle.gles_matrix.proofs.frustum.Goals as goal
 
 pub returns-then-number-ne0 : goal.returns-then-number-ne0

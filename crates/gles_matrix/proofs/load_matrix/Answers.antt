@@ -1,7 +1,6 @@
 -- `gles_matrix::load_matrix` meets its contract, from the current matrix of the mode in force.
 use mathlib.Core.Path.{refl}
 use Rattle.context.proofs.Entries.{load_does}
-use borrow.Author.Rules.{rules}
 use Rattle.gles_matrix.proofs.load_matrix.Goals as goal
 
 pub returns : goal.returns

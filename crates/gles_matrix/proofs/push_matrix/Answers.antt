@@ -1,8 +1,6 @@
 -- `gles_matrix::push_matrix` meets its contract: each arm is on the stack of the mode in force, which is lent.
-use borrow.Author.Tests.{not-true, not-false}
 use Rattle.context.specs.declared.MatrixMode.{MatrixMode}
 use Rattle.context.proofs.Entries.{unsound, stack_does}
-use borrow.Author.Rules.{rules}
 use Rattle.gles_matrix.proofs.push_matrix.Goals as goal
 
 pub returns-then-not-is_sound : goal.returns-then-not-is_sound

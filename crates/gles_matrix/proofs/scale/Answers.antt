@@ -1,7 +1,6 @@
 -- `gles_matrix::scale` meets its contract, from the current matrix of the mode in force.
 use mathlib.Core.Path.{refl}
 use Rattle.context.proofs.Entries.{product_does}
-use borrow.Author.Rules.{rules}
 use Rattle.gles_matrix.proofs.scale.Goals as goal
 
 pub returns : goal.returns

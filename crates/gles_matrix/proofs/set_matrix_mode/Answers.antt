@@ -1,7 +1,5 @@
 -- `gles_matrix::set_matrix_mode` meets its contract: each arm is the case of the table's answer.
-use borrow.Author.Tests.{not-true, not-false}
 use Rattle.context.proofs.Entries.{unsound, mode_known, mode_unknown}
-use borrow.Author.Rules.{rules}
 use Rattle.gles_matrix.proofs.set_matrix_mode.Goals as goal
 
 pub returns-then-not-is_sound : goal.returns-then-not-is_sound

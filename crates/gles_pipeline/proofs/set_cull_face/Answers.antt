@@ -1,6 +1,5 @@
 -- `gles_pipeline::set_cull_face` meets its contract, from the call on the settings.
 use Rattle.context.proofs.Entries.{pipeline_does}
-use borrow.Author.Rules.{rules}
 use Rattle.gles_pipeline.proofs.set_cull_face.Goals as goal
 
 pub returns : goal.returns

@@ -1,8 +1,6 @@
 -- `gles_pipeline::take_error` meets its contract: the slot is given out and emptied.
 use mathlib.Core.Path.{refl}
-use borrow.Author.Tests.{not-true, not-false}
 use Rattle.context.proofs.Entries.{unsound, take_error_does}
-use borrow.Author.Rules.{rules}
 use Rattle.gles_pipeline.proofs.take_error.Goals as goal
 
 pub returns-then-not-is_sound : goal.returns-then-not-is_sound

@@ -1,7 +1,5 @@
 -- `context::Context::answer_attributes` meets its contract: the context is asked first.
-use borrow.Author.Tests.{not-true, not-false}
 use Rattle.context.proofs.Entries.{settled, settled_unsound}
-use borrow.Author.Rules.{rules}
 use Rattle.context.proofs.Context.answer_attributes.Goals as goal
 
 pub returns-then-not-is_sound : goal.returns-then-not-is_sound

@@ -1,5 +1,4 @@
 -- `context::Context::answer_draw` meets its contract, from what `slot_after` ensures.
-use borrow.Author.Rules.{rules}
 use Rattle.context.proofs.Context.answer_draw.Goals as goal
 
 pub returns : goal.returns

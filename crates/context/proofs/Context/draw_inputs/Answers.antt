@@ -1,5 +1,4 @@
 -- `context::Context::draw_inputs` meets its contract, from what `multiply` ensures.
-use borrow.Author.Rules.{rules}
 use Rattle.context.proofs.Context.draw_inputs.Goals as goal
 
 pub returns : goal.returns

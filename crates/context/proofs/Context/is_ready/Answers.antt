@@ -1,6 +1,5 @@
 -- `context::Context::is_ready` meets its contract: the length, and then soundness.
 use Rattle.context.proofs.Entries.{part_unsound, ready}
-use borrow.Author.Rules.{rules}
 use Rattle.context.proofs.Context.is_ready.Goals as goal
 
 pub returns-then-len-ne-STORE_BYTES : goal.returns-then-len-ne-STORE_BYTES

@@ -1,7 +1,5 @@
 -- `context::Context::is_sound` meets its contract: the buffers, and the rest.
-use borrow.Author.Tests.{not-true, not-false}
 use Rattle.context.proofs.Entries.{apart, part_unsound, whole_sound}
-use borrow.Author.Rules.{rules}
 use Rattle.context.proofs.Context.is_sound.Goals as goal
 
 pub returns-then-not-is_sound_apart : goal.returns-then-not-is_sound_apart

@@ -1,7 +1,5 @@
 -- `context::Context::is_sound_apart` meets its contract: each part is asked.
-use borrow.Author.Tests.{not-true, not-false}
 use Rattle.context.proofs.Entries.{part_unsound, apart_sound}
-use borrow.Author.Rules.{rules}
 use Rattle.context.proofs.Context.is_sound_apart.Goals as goal
 
 pub returns-then-not-is_unit : goal.returns-then-not-is_unit

@@ -1,6 +1,5 @@
 -- `context::Context::new` meets its contract, from the fresh parts.
 use Rattle.context.proofs.Entries.{new_fresh}
-use borrow.Author.Rules.{rules}
 use Rattle.context.proofs.Context.new.Goals as goal
 
 pub returns : goal.returns

@@ -1,5 +1,4 @@
 -- `context::Context::put_buffers` meets its contract, from what `slot_after` ensures.
-use borrow.Author.Rules.{rules}
 use Rattle.context.proofs.Context.put_buffers.Goals as goal
 
 pub returns : goal.returns

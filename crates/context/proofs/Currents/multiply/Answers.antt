@@ -1,5 +1,4 @@
 -- `context::Currents::multiply` meets its contract, from what it calls.
-use borrow.Author.Rules.{rules}
 use Rattle.context.proofs.Currents.multiply.Goals as goal
 
 pub returns : goal.returns

@@ -1,5 +1,4 @@
 -- `context::Currents::put` meets its contract: each arm is the case of the mode.
-use borrow.Author.Rules.{rules}
 use Rattle.context.proofs.Currents.put.Goals as goal
 
 pub returns-in-Modelview : goal.returns-in-Modelview

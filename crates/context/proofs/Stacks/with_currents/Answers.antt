@@ -1,5 +1,4 @@
 -- `context::Stacks::with_currents` meets its contract: each matrix is replaced.
-use borrow.Author.Rules.{rules}
 use Rattle.context.proofs.Stacks.with_currents.Goals as goal
 
 pub returns : goal.returns
