@@ -1,9 +1,9 @@
 -- Worked examples of single rules of document 01, as theorems about the rules that the calls follow.
-use Rattle.std.specs.Prelude.{true, false, ◌≡◌, refl, ℕ, ◌+◌, ◌<◌, ◌≤◌, Float}
+use Rattle.std.specs.Prelude.{true, false, ◌≡◌, refl, ℕ, ◌+◌, ◌<◌, ◌≤◌}
 use mathlib.Core.List.{List, [], ◌∷◌, foldl}
 use Rattle.std.proofs.Math.Option.{some, none}
 use Rattle.std.proofs.Common.{lt-ltb, le-ltb}
-use Rattle.std.specs.Float.{nan, binary32}
+use Rattle.std.specs.Float.{nan}
 use Rattle.std.specs.Float.Ieee.{of_bits, eq, le}
 use Rattle.number.specs.F32.{f1, f2}
 use Rattle.buffers.specs.Objects as objects

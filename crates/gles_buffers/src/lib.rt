@@ -12,7 +12,7 @@ use context::{Context, GenReply, Reply};
 // The first of n names, one after the other; 0 where none is made.
 pub fn gen_buffers(c: Context, n: usize) -> GenReply
     ensures does { Does (Call.object (ObjectCall.buffer (BufferCall.gen_buffers n))) c result.number result.context }
-    ensures first_value { result.first ≡ gen_first result.number c.buffers.next n }
+    ensures first { result.first ≡ gen_first result.number c.buffers.next n }
 {
     if !c.is_sound_apart() {
         return GenReply {

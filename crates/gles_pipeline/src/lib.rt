@@ -90,7 +90,7 @@ pub fn set_fog(c: Context, pname: u32, value: f32) -> Reply
 // The code in the error slot, which is empty afterwards.
 pub fn take_error(c: Context) -> ErrorReply
     ensures does { Does Call.take_error c result.number result.context }
-    ensures code_value { result.code ≡ error_code result.number c.error }
+    ensures code { result.code ≡ error_code result.number c.error }
 {
     if !c.is_sound() {
         return ErrorReply {

@@ -46,9 +46,9 @@ fn make_sub_data(c: Context, store: &mut [u8], w: &[u32], bytes: &[u8]) -> Reply
 }
 
 pub fn make_buffer(c: Context, store: &mut [u8], code: u32, w: &[u32], bytes: &[u8]) -> CallReply
-    ensures known_value { (result.known ≡ true)
+    ensures made { (result.known ≡ true)
         × Did (Call.object (ObjectCall.buffer (buffer_of bytes.now code w.now))) c store.old result.number result.context store.new }
-    ensures value_value { result.value ≡ buffer_value (buffer_of bytes.now code w.now) c result.number }
+    ensures value { result.value ≡ buffer_value (buffer_of bytes.now code w.now) c result.number }
 {
     match code {
         0x20 => make_gen(c, list_words::long_at(w, 0)),

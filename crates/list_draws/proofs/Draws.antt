@@ -1,6 +1,6 @@
 -- From the words of a draw to the draw. Assumes nothing.
 use mathlib.Core.List.{List, ◌++◌}
-use mathlib.Core.Path.{◌≡◌, refl, sym, ap, subst, ◌∙◌}
+use mathlib.Core.Path.{◌≡◌, refl, sym, ap, subst}
 use Prim.Native.Nat.{ℕ, ◌≤◌, min}
 use native.Mathlib.Omega.{arith}
 use lib.ListN.{length, take, drop}
@@ -12,7 +12,7 @@ use Rattle.context.specs.declared.DrawReply.{DrawReply}
 use Rattle.context.specs.Contract.{draw_call}
 use Rattle.history.specs.Demand3.{DrawDid}
 use Rattle.list_draws.specs.declared.DrawWords.{DrawWords}
-use Rattle.list_words.specs.Words.{word_at, long_at, bytes_at}
+use Rattle.list_words.specs.Words.{long_at, bytes_at}
 use Rattle.list_records.specs.Encoding.{draw_of_words}
 use Rattle.list_records.specs.Perform.{DrewIn}
 use Rattle.list_draws.specs.Words.{draw_words}

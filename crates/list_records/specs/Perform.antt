@@ -5,7 +5,7 @@ use Rattle.buffers.specs.Objects.{gen_first}
 use Rattle.vertex.specs.Scene.{DrawCall}
 use Rattle.context.specs.declared.Context.{Context}
 use Rattle.context.specs.declared.DrawReply.{DrawReply}
-use Rattle.context.specs.Calls.{BufferCall, gen_buffers, bind_buffer, delete_buffers, buffer_data, buffer_sub_data, ObjectCall, buffer, array}
+use Rattle.context.specs.Calls.{BufferCall, gen_buffers, bind_buffer, delete_buffers, buffer_data, buffer_sub_data, buffer, array}
 use Rattle.context.specs.Calls.{Call, matrix, mode, object, attribute, pipeline, take_error, draw}
 use Rattle.context.specs.Rules.{error_code}
 use Rattle.context.specs.Contract.{Did, draw_reply}

@@ -5,11 +5,11 @@ use Rattle.gles_buffers.proofs.gen_buffers.Goals as goal
 
 pub returns-then-not-is_sound_apart : goal.returns-then-not-is_sound_apart
 returns-then-not-is_sound_apart c =
-    record { does = λ s. unsound_apart _ _ s (c.is_sound_apart.ensures.no c.if-not-is_sound_apart.true); first_value = refl }
+    record { does = λ s. unsound_apart _ _ s (c.is_sound_apart.ensures.no c.if-not-is_sound_apart.true); first = refl }
 
 pub returns : goal.returns
 returns c =
     record {
       does = rw c.put_buffers-r.ensures (buffer_does _ _ _ _ (c.is_sound_apart.ensures.yes c.if-not-is_sound_apart.false) refl c.gen_buffers-a.ensures.answers);
-      first_value = c.gen_buffers-a.ensures.names;
+      first = c.gen_buffers-a.ensures.names;
     }

@@ -2,7 +2,6 @@
 use mathlib.Core.Path.{◌≡◌}
 use native.Mathlib.Omega.{arith}
 use lib.ListN.{length}
-use borrow.Author.Rules.{rules}
 use Rattle.gles_fixed.proofs.Converted.{entry, no_entry}
 use Rattle.gles_fixed.proofs.four_to_f32.Goals as goal
 

@@ -1,6 +1,5 @@
 -- `gles_fixed::load_matrixx` meets its contract, from the current matrix of the mode in force.
 use mathlib.Core.Path.{refl}
-use borrow.Author.Rules.{rules}
 use Rattle.context.proofs.Entries.{load_does}
 use Rattle.gles_fixed.proofs.load_matrixx.Goals as goal
 

@@ -1,6 +1,5 @@
 -- `gles_fixed::mult_matrixx` meets its contract, from the current matrix of the mode in force.
 use mathlib.Core.Path.{refl}
-use borrow.Author.Rules.{rules}
 use Rattle.context.proofs.Entries.{product_does}
 use Rattle.gles_fixed.proofs.mult_matrixx.Goals as goal
 

@@ -1,6 +1,5 @@
 -- `gles_fixed::orthox` meets its contract, from the current matrix of the mode in force and the converted arguments.
 use mathlib.Core.Path.{refl, sym, ◌∙◌}
-use borrow.Author.Rules.{rules}
 use Rattle.context.proofs.Entries.{update_refused, product_does}
 use Rattle.gles_fixed.proofs.Converted.{converted}
 use Rattle.gles_fixed.proofs.orthox.Goals as goal

@@ -1,6 +1,5 @@
 -- `gles_fixed::scalex` meets its contract, from the current matrix of the mode in force and the converted arguments.
 use mathlib.Core.Path.{refl}
-use borrow.Author.Rules.{rules}
 use Rattle.context.proofs.Entries.{product_does}
 use Rattle.gles_fixed.proofs.Converted.{converted}
 use Rattle.gles_fixed.proofs.scalex.Goals as goal

@@ -1,5 +1,4 @@
 -- `gles_fixed::set_colorx` meets its contract: the float call is made on the converted arguments.
-use borrow.Author.Rules.{rules}
 use Rattle.gles_fixed.proofs.set_colorx.Goals as goal
 
 pub returns : goal.returns

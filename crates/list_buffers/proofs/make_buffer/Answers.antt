@@ -1,4 +1,4 @@
--- `buffer_records::make_buffer` meets its contract: each arm is its row.
+-- `list_buffers::make_buffer` meets its contract: each arm is its row.
 use borrow.Author.Rules.{rules}
 use Rattle.number.proofs.Tables.{last_row}
 use Rattle.list_buffers.proofs.Answers.{Answers, answers_is, replied_is}
@@ -19,7 +19,7 @@ returns-in-32 c =
     let made = c.make_gen.ensures in
     let h : Answers (buffer_of a.bytes.now a.code a.w.now) a.c a.store.now c.make_gen.result a.store.now =
     answers_is (ap gen_buffers long-at ∙ (λ i. buffer_of a.bytes.now (sym arm i) a.w.now)) ((made.0, made.1 _), made.2)
-    in record { known_value = h.0; value_value = h.1 }
+    in record { made = h.0; value = h.1 }
 
 pub returns-in-33 : goal.returns-in-33
 unfolding buffer_of
@@ -31,7 +31,7 @@ returns-in-33 c =
     let h : Answers (buffer_of a.bytes.now a.code a.w.now) a.c a.store.now c.replied.result a.store.now =
     answers_is ((λ i. bind_buffer (word_at i) (word-at2 i)) ∙ (λ i. buffer_of a.bytes.now (sym arm i) a.w.now))
     (replied_is c.replied.ensures (c.bind_buffer.ensures _) refl)
-    in record { known_value = h.0; value_value = h.1 }
+    in record { made = h.0; value = h.1 }
 
 pub returns-in-34 : goal.returns-in-34
 unfolding buffer_of
@@ -40,7 +40,7 @@ returns-in-34 c =
     let arm = c.in-34.is in
     let h : Answers (buffer_of a.bytes.now a.code a.w.now) a.c a.store.now c.replied-in-34.result a.store.now =
     answers_is (λ i. buffer_of a.bytes.now (sym arm i) a.w.now) (replied_is c.replied-in-34.ensures (c.delete_buffers.ensures _) refl)
-    in record { known_value = h.0; value_value = h.1 }
+    in record { made = h.0; value = h.1 }
 
 pub returns-in-35 : goal.returns-in-35
 unfolding buffer_of
@@ -50,7 +50,7 @@ returns-in-35 c =
     let make-data = c.make_data.ensures in
     let h : Answers (buffer_of a.bytes.now a.code a.w.now) a.c a.store.now c.replied-in-35.result c.make_data.new.store =
     answers_is (λ i. buffer_of a.bytes.now (sym arm i) a.w.now) (replied_is c.replied-in-35.ensures make-data refl)
-    in record { known_value = h.0; value_value = h.1 }
+    in record { made = h.0; value = h.1 }
 
 pub returns-in_default : goal.returns-in_default
 unfolding buffer_of
@@ -60,4 +60,4 @@ returns-in_default c =
     let make-sub-data = c.make_sub_data.ensures in
     let h : Answers (buffer_of a.bytes.now a.code a.w.now) a.c a.store.now c.replied-in_default.result c.make_sub_data.new.store =
     answers_is (last_row (buffer_rows a.bytes.now a.w.now) _ _ arm) (replied_is c.replied-in_default.ensures make-sub-data refl)
-    in record { known_value = h.0; value_value = h.1 }
+    in record { made = h.0; value = h.1 }

@@ -1,7 +1,6 @@
--- `buffer_records::make_sub_data` meets its contract.
+-- `list_buffers::make_sub_data` meets its contract.
 use Rattle.context.specs.Calls.{object, buffer, buffer_sub_data}
 use Rattle.list_buffers.proofs.Answers.{did_is}
-use borrow.Author.Rules.{rules}
 use Rattle.list_buffers.proofs.make_sub_data.Goals as goal
 
 pub returns : goal.returns

@@ -1,5 +1,4 @@
--- `draw_records::draw_words` meets its contract.
-use borrow.Author.Rules.{rules}
+-- `list_draws::draw_words` meets its contract.
 use Rattle.list_draws.proofs.draw_words.Goals as goal
 
 pub returns : goal.returns

@@ -1,8 +1,7 @@
--- `draw_records::make_draw` meets its contract: each arm is its row.
+-- `list_draws::make_draw` meets its contract: each arm is its row.
 use Rattle.number.proofs.Tables.{last_row}
 use Rattle.list_records.proofs.Records.{drew_is}
 use Rattle.list_records.specs.Encoding.{source_rows, source_of}
-use borrow.Author.Rules.{rules}
 use Rattle.list_draws.proofs.make_draw.Goals as goal
 
 pub returns-in-96 : goal.returns-in-96

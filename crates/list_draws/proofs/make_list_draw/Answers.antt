@@ -1,8 +1,7 @@
--- `draw_records::make_list_draw` meets its contract.
+-- `list_draws::make_list_draw` meets its contract.
 use mathlib.Core.Path.{ap}
 use Rattle.list_draws.proofs.Draws.{room_fits, room_is, drew_in}
 use Rattle.vertex.specs.Scene.{list}
-use borrow.Author.Rules.{rules}
 use Rattle.list_draws.proofs.make_list_draw.Goals as goal
 
 pub slice_bounds-draw_elements-end : goal.slice_bounds-draw_elements-end

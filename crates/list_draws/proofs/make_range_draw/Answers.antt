@@ -1,7 +1,6 @@
--- `draw_records::make_range_draw` meets its contract.
+-- `list_draws::make_range_draw` meets its contract.
 use Rattle.list_draws.proofs.Draws.{room_fits, room_is, drew_in}
 use Rattle.vertex.specs.Scene.{range}
-use borrow.Author.Rules.{rules}
 use Rattle.list_draws.proofs.make_range_draw.Goals as goal
 
 pub slice_bounds-draw_arrays-end : goal.slice_bounds-draw_arrays-end

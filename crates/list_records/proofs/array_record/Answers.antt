@@ -1,8 +1,7 @@
--- `records::array_record` meets its contract: the words are the call's.
+-- `list_records::array_record` meets its contract: the words are the call's.
 use Rattle.context.specs.Calls.{object, array}
 use Rattle.list_records.specs.Encoding.{array_call_of}
 use Rattle.list_records.proofs.Records.{does_is}
-use borrow.Author.Rules.{rules}
 use Rattle.list_records.proofs.array_record.Goals as goal
 
 pub returns : goal.returns

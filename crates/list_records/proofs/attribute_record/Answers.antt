@@ -1,8 +1,7 @@
--- `records::attribute_record` meets its contract: the words are the call's.
+-- `list_records::attribute_record` meets its contract: the words are the call's.
 use Rattle.context.specs.Calls.{attribute}
 use Rattle.list_records.specs.Encoding.{attribute_of}
 use Rattle.list_records.proofs.Records.{does_is}
-use borrow.Author.Rules.{rules}
 use Rattle.list_records.proofs.attribute_record.Goals as goal
 
 pub returns : goal.returns

@@ -1,4 +1,4 @@
--- `records::is_record` meets its contract: each arm is its rows.
+-- `list_records::is_record` meets its contract: each arm is its rows.
 use mathlib.Core.Path.{◌≡◌, refl, sym, ap}
 use Prim.Native.Nat.{ℕ}
 use mathlib.Core.List.{[], ◌∷◌}

@@ -1,10 +1,9 @@
--- `records::make_array` meets its contract: each arm makes the call of its row.
+-- `list_records::make_array` meets its contract: each arm makes the call of its row.
 use mathlib.Core.Path.{ap}
 use Rattle.context.specs.Calls.{object, array}
 use Rattle.list_records.specs.Encoding.{array_call_of, array_rows}
 use Rattle.number.proofs.Tables.{last_row}
 use Rattle.list_records.proofs.Records.{does_is}
-use borrow.Author.Rules.{rules}
 use Rattle.list_records.proofs.make_array.Goals as goal
 
 pub returns-in-48 : goal.returns-in-48

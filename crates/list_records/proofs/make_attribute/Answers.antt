@@ -1,10 +1,9 @@
--- `records::make_attribute` meets its contract: each arm makes the call of its row.
+-- `list_records::make_attribute` meets its contract: each arm makes the call of its row.
 use mathlib.Core.Path.{ap}
 use Rattle.context.specs.Calls.{attribute}
 use Rattle.list_records.specs.Encoding.{attribute_of, attribute_rows}
 use Rattle.number.proofs.Tables.{last_row}
 use Rattle.list_records.proofs.Records.{does_is}
-use borrow.Author.Rules.{rules}
 use Rattle.list_records.proofs.make_attribute.Goals as goal
 
 pub returns-in-54 : goal.returns-in-54

@@ -1,6 +1,5 @@
--- `records::make_matrix` meets its contract: push, pop, or the call of `make_update`.
+-- `list_records::make_matrix` meets its contract: push, pop, or the call of `make_update`.
 use mathlib.Core.Path.{ap}
-use borrow.Author.Rules.{rules}
 use Rattle.context.specs.Calls.{matrix}
 use Rattle.list_records.specs.Encoding.{stack_rows, matrix_of}
 use Rattle.number.proofs.Tables.{last_row}

@@ -1,11 +1,10 @@
--- `records::make_update` meets its contract: each arm makes the call of its row.
+-- `list_records::make_update` meets its contract: each arm makes the call of its row.
 use mathlib.Core.Path.{ap}
 use Rattle.stack.specs.Stack.{MatrixUpdate, update}
 use Rattle.context.specs.Calls.{matrix}
 use Rattle.list_records.specs.Encoding.{update_rows, update_of}
 use Rattle.number.proofs.Tables.{last_row}
 use Rattle.list_records.proofs.Records.{does_is}
-use borrow.Author.Rules.{rules}
 use Rattle.list_records.proofs.make_update.Goals as goal
 
 pub returns-in-17 : goal.returns-in-17

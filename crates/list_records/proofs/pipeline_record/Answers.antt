@@ -1,8 +1,7 @@
--- `records::pipeline_record` meets its contract: the words are the call's.
+-- `list_records::pipeline_record` meets its contract: the words are the call's.
 use Rattle.context.specs.Calls.{pipeline}
 use Rattle.list_records.specs.Encoding.{pipeline_of}
 use Rattle.list_records.proofs.Records.{does_is}
-use borrow.Author.Rules.{rules}
 use Rattle.list_records.proofs.pipeline_record.Goals as goal
 
 pub returns : goal.returns

@@ -1,8 +1,6 @@
--- `runner::make_call` meets its contract: it asks whether the words are a record's.
+-- `list_runner::make_call` meets its contract: it asks whether the words are a record's.
 use mathlib.Core.Path.{sym, ◌∙◌}
-use borrow.Author.Tests.{not-true, not-false}
 use Rattle.list_runner.proofs.Calls.{no_record_call, a_record_call}
-use borrow.Author.Rules.{rules}
 use Rattle.list_runner.proofs.make_call.Goals as goal
 
 pub returns-then-not-is_record : goal.returns-then-not-is_record

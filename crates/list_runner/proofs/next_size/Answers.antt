@@ -1,7 +1,6 @@
--- `runner::next_size` meets its contract.
+-- `list_runner::next_size` meets its contract.
 use mathlib.Core.Path.{sym, ◌∙◌}
 use Rattle.list_runner.proofs.Running.{size_short, size_known, size_unknown}
-use borrow.Author.Rules.{rules}
 use Rattle.list_runner.proofs.next_size.Goals as goal
 
 pub returns-then-size-lt2 : goal.returns-then-size-lt2

@@ -1,4 +1,4 @@
--- `runner::perform` meets its contract: each group makes its calls.
+-- `list_runner::perform` meets its contract: each group makes its calls.
 use mathlib.Core.Path.{refl, ap, ◌∙◌}
 use lib.Ieee.{Float}
 use mathlib.Core.List.{List}
@@ -6,7 +6,6 @@ use Rattle.context.specs.Calls.{matrix, mode}
 use Rattle.list_records.specs.Encoding.{matrix_of}
 use Rattle.list_runner.proofs.Calls.{is_mode, is_matrix, is_buffer, is_array, is_attribute, is_pipeline, is_take_error, is_draw_law}
 use Rattle.list_runner.proofs.Calls.{performs, performs_value, performs_buffer, performs_draw}
-use borrow.Author.Rules.{rules}
 use Rattle.list_runner.proofs.perform.Goals as goal
 
 pub returns-then-code-eq16 : goal.returns-then-code-eq16
@@ -30,7 +29,7 @@ returns-then-code-lt48 c =
     let a = c.args in
     let if2 = c.if-code-lt32.false in
     let if3 = c.if-code-lt48.true in
-    performs_buffer (is_buffer a.bytes.now _ a.code a.w.now if2 if3) (c.make_buffer.ensures.known_value, c.make_buffer.ensures.value_value)
+    performs_buffer (is_buffer a.bytes.now _ a.code a.w.now if2 if3) (c.make_buffer.ensures.made, c.make_buffer.ensures.value)
 
 pub returns-then-code-lt54 : goal.returns-then-code-lt54
 returns-then-code-lt54 c =

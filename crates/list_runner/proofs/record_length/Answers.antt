@@ -1,6 +1,5 @@
--- `runner::record_length` meets its contract.
+-- `list_runner::record_length` meets its contract.
 use Rattle.list_runner.proofs.Running.{whole_record, cut_record}
-use borrow.Author.Rules.{rules}
 use Rattle.list_runner.proofs.record_length.Goals as goal
 
 pub returns-then-n-rest : goal.returns-then-n-rest

@@ -1,6 +1,5 @@
--- `runner::run` meets its contract: the calls of a list, after none.
-use mathlib.Core.Path.{◌≡◌, refl}
-use borrow.Author.Rules.{rules}
+-- `list_runner::run` meets its contract: the calls of a list, after none.
+use mathlib.Core.Path.{refl}
 use Rattle.history.specs.Demand3.{start}
 use Rattle.list_runner.proofs.Running.{continues}
 use Rattle.list_runner.proofs.run.Goals as goal

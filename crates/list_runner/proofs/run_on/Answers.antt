@@ -1,9 +1,8 @@
 -- `list_runner::run_on` meets its contract: what is made and what is left are the whole list.
 use mathlib.Core.List.{List}
-use mathlib.Core.Path.{◌≡◌, refl, ap, ◌∙◌}
-use Prim.Native.Nat.{◌≤◌, ◌+◌, ◌-◌}
+use mathlib.Core.Path.{refl, ap, ◌∙◌}
+use Prim.Native.Nat.{◌+◌, ◌-◌}
 use native.Mathlib.Omega.{arith}
-use borrow.Author.Rules.{rules}
 use lib.Ieee.{Float}
 use lib.ListN.{length, take, drop}
 use Rattle.stack.specs.Stack.{update}
@@ -11,7 +10,7 @@ use Rattle.context.specs.Calls.{matrix, mode}
 use Rattle.list_records.specs.Encoding.{update_of, call_of}
 use Rattle.list_runner.proofs.Calls.{is_mode, is_push, is_pop, is_update, is_buffer, is_array, is_attribute, is_pipeline, is_take_error, is_draw_law}
 use Rattle.list_runner.proofs.Calls.{performed, performed_draw, placed, currents_placed}
-use Rattle.list_runner.proofs.Running.{next_inside, Progress, progress_start, progress_next, progress_stop, progress_done, Stepped, joined, stayed}
+use Rattle.list_runner.proofs.Running.{next_inside, progress_start, progress_next, progress_stop, progress_done, Stepped, joined, stayed}
 use Rattle.list_runner.proofs.run_on.Goals as goal
 use Rattle.list_runner.proofs.run_on.Goals.{then-code-eq20, else-code-eq20+then-code-eq21, else-code-eq20+else-code-eq21+then-code-eq16, else-code-eq20+else-code-eq21+else-code-eq16+then-code-lt32, else-code-eq20+else-code-eq21+else-code-eq16+else-code-lt32+then-code-lt48, else-code-eq20+else-code-eq21+else-code-eq16+else-code-lt32+else-code-lt48+then-code-lt54, else-code-eq20+else-code-eq21+else-code-eq16+else-code-lt32+else-code-lt48+else-code-lt54+then-code-lt64, else-code-eq20+else-code-eq21+else-code-eq16+else-code-lt32+else-code-lt48+else-code-lt54+else-code-lt64+then-code-lt80, else-code-eq20+else-code-eq21+else-code-eq16+else-code-lt32+else-code-lt48+else-code-lt54+else-code-lt64+else-code-lt80+then-code-eq80, else-code-eq20+else-code-eq21+else-code-eq16+else-code-lt32+else-code-lt48+else-code-lt54+else-code-lt64+else-code-lt80+else-code-eq80}
 
@@ -106,7 +105,7 @@ loop-left-preserved c =
           joined (stayed (performed (floats ∙ is_update bytes _ _ _ w.if-code-eq20.false w.if-code-eq21.false w.if-code-eq16.false w.if-code-lt32.true) m refl refl)) w.store-is w.out-is (currents_placed m w.currents-m.ensures w.with_currents-part.ensures w.c-is) w.number-is w.value-is
       | else-code-eq20+else-code-eq21+else-code-eq16+else-code-lt32+then-code-lt48 w ↦
           let m = w.make_buffer-r.ensures in
-          joined (performed (is_buffer bytes _ _ _ w.if-code-lt32.false w.if-code-lt48.true) m.known_value.1 refl m.value_value, w.make_buffer-r.auto.store, refl) w.store-is w.out-is (placed m.known_value.1 w.c-is) w.number-is w.value-is
+          joined (performed (is_buffer bytes _ _ _ w.if-code-lt32.false w.if-code-lt48.true) m.made.1 refl m.value, w.make_buffer-r.auto.store, refl) w.store-is w.out-is (placed m.made.1 w.c-is) w.number-is w.value-is
       | else-code-eq20+else-code-eq21+else-code-eq16+else-code-lt32+else-code-lt48+then-code-lt54 w ↦
           let m = w.array_record-r.ensures _ in
           joined (stayed (performed (is_array bytes _ _ _ w.if-code-lt48.false w.if-code-lt54.true) m refl refl)) w.store-is w.out-is (placed m w.c-is) w.number-is w.value-is

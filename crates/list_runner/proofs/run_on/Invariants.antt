@@ -1,17 +1,7 @@
-use mathlib.Core.List.{List}
-use mathlib.Core.Logic.{⊎_elim}
-use mathlib.Core.Path.{◌≡◌, refl, ap, ◌∙◌}
-use Prim.Native.Nat.{◌≤◌, ◌+◌, ◌-◌}
-use native.Mathlib.Omega.{arith}
-use borrow.Author.Rules.{rules}
-use lib.Ieee.{Float}
-use lib.ListN.{length, take, drop}
-use Rattle.stack.specs.Stack.{update}
-use Rattle.context.specs.Calls.{matrix, mode}
-use Rattle.list_records.specs.Encoding.{update_of, call_of}
-use Rattle.list_runner.proofs.Calls.{is_mode, is_push, is_pop, is_update, is_buffer, is_array, is_attribute, is_pipeline, is_take_error, is_draw_law}
-use Rattle.list_runner.proofs.Calls.{performed, performed_draw, placed, currents_placed}
-use Rattle.list_runner.proofs.Running.{next_inside, Progress, progress_start, progress_next, progress_stop, progress_done, Stepped, joined, stayed}
+use mathlib.Core.Path.{◌≡◌}
+use Prim.Native.Nat.{◌≤◌}
+use lib.ListN.{length}
+use Rattle.list_runner.proofs.Running.{Progress}
 use Rattle.list_runner.proofs.run_on.Given as goal
 
 abbrev pub invariant-loop-left : goal.invariant-loop-left
