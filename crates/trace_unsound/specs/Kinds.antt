@@ -1,5 +1,5 @@
 -- What the kinds of UNSOUND make of a context (TRACE.md: "Outer stacks, unsound contexts, state").
-use Rattle.std.specs.Prelude.{Bool, cond, List, [], ◌∷◌, ◌≡◌, ℕ, ◌+◌, ◌<◌, ◌≤◌, eqb, ltb, set}
+use Rattle.std.specs.Prelude.{cond, List, [], ◌∷◌, ◌≡◌, ℕ, ◌+◌, ◌<◌, ◌≤◌, eqb, ltb, set}
 use Rattle.number.specs.Tables.{Row, ◌names◌, row_or}
 use Rattle.stack.specs.Stack.{limit}
 use Rattle.stack.specs.declared.MatrixStack.{MatrixStack}

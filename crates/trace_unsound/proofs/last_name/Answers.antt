@@ -1,6 +1,5 @@
 -- `unsound::last_name` meets its contract: after k turns it is the greatest in the first k slots.
 use mathlib.Core.Path.{subst}
-use Prim.Native.Nat.{◌-◌, ◌≤◌}
 use native.Mathlib.Omega.{arith}
 use Rattle.trace_unsound.specs.Kinds.{Greatest}
 use Rattle.trace_unsound.proofs.Names.{none_yet, one_more}

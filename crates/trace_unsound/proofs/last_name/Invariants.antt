@@ -1,8 +1,5 @@
-use mathlib.Core.Path.{subst}
 use Prim.Native.Nat.{◌-◌, ◌≤◌}
-use native.Mathlib.Omega.{arith}
 use Rattle.trace_unsound.specs.Kinds.{Greatest}
-use Rattle.trace_unsound.proofs.Names.{none_yet, one_more}
 use Rattle.trace_unsound.proofs.last_name.Given as goal
 
 abbrev pub invariant-loop-k : goal.invariant-loop-k

@@ -1,7 +1,6 @@
 -- `unsound::unsound` meets its contract: each arm is its row.
 use Rattle.number.proofs.Tables.{last_row}
-use Rattle.trace_unsound.specs.Kinds.{ContextMade, context_rows, context_made}
-use borrow.Author.Rules.{rules}
+use Rattle.trace_unsound.specs.Kinds.{context_rows, context_made}
 use Rattle.trace_unsound.proofs.unsound.Goals as goal
 
 pub returns-in-1 : goal.returns-in-1

@@ -1,9 +1,6 @@
 -- `unsound::unsound_buffers` meets its contract: each arm is its row.
-use mathlib.Core.Path.{◌≡◌, refl, sym, ap, ◌∙◌}
-use Rattle.buffers.specs.declared.Buffers.{Buffers}
 use Rattle.number.proofs.Tables.{last_row}
-use Rattle.trace_unsound.specs.Kinds.{BuffersMade, unsound_buffer_rows, buffers_made}
-use borrow.Author.Rules.{rules}
+use Rattle.trace_unsound.specs.Kinds.{unsound_buffer_rows, buffers_made}
 use Rattle.trace_unsound.proofs.unsound_buffers.Goals as goal
 
 pub returns-in-6 : goal.returns-in-6

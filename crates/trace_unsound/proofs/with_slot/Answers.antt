@@ -1,5 +1,4 @@
 -- `unsound::with_slot` meets its contract.
-use borrow.Author.Rules.{rules}
 use borrow.Author.Tests.{lt-ltb, le-ltb}
 use Rattle.trace_unsound.specs.Kinds.{slot_replaced}
 use Rattle.trace_unsound.proofs.with_slot.Goals as goal
