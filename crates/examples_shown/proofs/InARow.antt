@@ -1,7 +1,7 @@
 -- The two calls in a row. Assumes nothing.
 use mathlib.Core.Bool.{false}
 use mathlib.Core.List.{List, []}
-use mathlib.Core.Path.{◌≡◌, refl, ap, subst, ◌∙◌}
+use mathlib.Core.Path.{refl, ap, subst, ◌∙◌}
 use Prim.Native.Nat.{ℕ}
 use Rattle.buffers.proofs.Bounds.{never}
 use Rattle.arrays.specs.Arrays.{ArrayCall}

@@ -1,6 +1,6 @@
 -- The contexts of the worked examples.
 use Rattle.std.specs.Prelude.{true, List, ◌≡◌, ℕ}
-use Rattle.arrays.specs.Arrays.{ArrayCall, vertex_pointer, client_state}
+use Rattle.arrays.specs.Arrays.{vertex_pointer, client_state}
 use Rattle.context.specs.declared.Context.{Context}
 use Rattle.context.specs.State.{State, fresh_state, state_of, Sound}
 use Rattle.context.specs.Calls.{Call, object, array}

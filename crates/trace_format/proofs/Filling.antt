@@ -5,7 +5,7 @@ use Prim.Native.Nat.{ℕ, zero, suc, ◌+◌, ◌<◌, ◌≤◌}
 use native.Mathlib.Numerals.{add-one}
 use native.Mathlib.Omega.{arith}
 use lib.ListN.{length, get_or, take, drop, set, length-append, length-drop}
-use lib.Seq.{drop-cons, append_snoc, set_at, take-suc, take-length}
+use lib.Seq.{drop-cons, append_snoc, set_at, take-suc}
 use lib.Ieee.{Float, nan, binary32, to_bits}
 use mathlib.Core.Logic.{⊎_elim}
 use Rattle.buffers.proofs.Bounds.{lt_or_ge}

@@ -3,7 +3,7 @@ use Rattle.std.specs.Prelude.{Bool, true, false, cond, List, [], ◌∷◌, ℕ,
 use Rattle.std.proofs.Math.Option.{Option, some, none, get_or}
 use Rattle.number.specs.Tables.{Row, ◌names◌, lookup}
 use Rattle.list_words.specs.Words.{word_at}
-use Rattle.list_records.specs.Encoding.{is_size, is_record}
+use Rattle.list_records.specs.Encoding.{is_record}
 use Rattle.trace_format.specs.declared.Fault.{Fault}
 
 -- ---- bounds

@@ -1,6 +1,5 @@
 -- `shown::positions` meets its contract: the vertex array of a fresh context.
 use Rattle.examples_shown.proofs.InARow.{from_fresh}
-use borrow.Author.Rules.{rules}
 use Rattle.examples_shown.proofs.positions.Goals as goal
 
 pub returns : goal.returns

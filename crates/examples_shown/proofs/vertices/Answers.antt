@@ -1,6 +1,5 @@
 -- `shown::vertices` meets its contract, from those of the two calls.
 use Rattle.examples_shown.proofs.InARow.{made}
-use borrow.Author.Rules.{rules}
 use Rattle.examples_shown.proofs.vertices.Goals as goal
 
 pub returns : goal.returns

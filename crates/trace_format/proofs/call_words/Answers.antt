@@ -1,7 +1,6 @@
 -- `trace::call_words` meets its contract: each arm is its row.
 use Rattle.number.proofs.Tables.{last_row}
 use Rattle.trace_format.specs.Calls.{call_rows, call_words}
-use borrow.Author.Rules.{rules}
 use Rattle.trace_format.proofs.call_words.Goals as goal
 
 pub returns-in-24 : goal.returns-in-24

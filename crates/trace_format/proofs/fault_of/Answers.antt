@@ -1,9 +1,7 @@
 -- `trace::fault_of` meets its contract: the first question that is answered no decides.
 use mathlib.Core.Path.{refl, sym, ◌∙◌}
-use borrow.Author.Tests.{not-true, not-false}
 use mathlib.Core.Bool.{true, false}
 use Rattle.trace_format.proofs.Records.{fault_is}
-use borrow.Author.Rules.{rules}
 use Rattle.trace_format.proofs.fault_of.Goals as goal
 
 pub returns-then-not-has_size : goal.returns-then-not-has_size

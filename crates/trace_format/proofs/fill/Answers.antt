@@ -1,10 +1,8 @@
 -- `trace::fill` meets its contract: after i turns the first i bytes are made anew.
-use Prim.Native.Nat.{◌-◌, ◌≤◌}
-use mathlib.Core.Path.{◌≡◌, refl, ap, ◌∙◌}
+use mathlib.Core.Path.{refl, ap, ◌∙◌}
 use native.Mathlib.Omega.{arith}
-use lib.ListN.{length}
 use Rattle.trace_format.specs.Fill.{tabulate, fill_byte}
-use Rattle.trace_format.proofs.Filling.{filled_to, length_filled, fill_step}
+use Rattle.trace_format.proofs.Filling.{filled_to, fill_step}
 use Rattle.trace_format.proofs.fill.Goals as goal
 
 pub loop-i-init : goal.loop-i-init

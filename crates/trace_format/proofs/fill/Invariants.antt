@@ -1,9 +1,7 @@
 use Prim.Native.Nat.{◌-◌, ◌≤◌}
-use mathlib.Core.Path.{◌≡◌, refl, ap, ◌∙◌}
-use native.Mathlib.Omega.{arith}
-use lib.ListN.{length}
-use Rattle.trace_format.specs.Fill.{tabulate, fill_byte}
-use Rattle.trace_format.proofs.Filling.{filled_to, length_filled, fill_step}
+use mathlib.Core.Path.{◌≡◌}
+use Rattle.trace_format.specs.Fill.{fill_byte}
+use Rattle.trace_format.proofs.Filling.{filled_to}
 use Rattle.trace_format.proofs.fill.Given as goal
 
 abbrev pub invariant-loop-i : goal.invariant-loop-i

@@ -1,8 +1,6 @@
 -- `trace::first_touched` meets its contract: the words before i are marked.
-use Prim.Native.Nat.{◌-◌, ◌≤◌}
 use native.Mathlib.Omega.{arith}
-use lib.ListN.{length}
-use Rattle.trace_format.proofs.Filling.{MarkedTo, marked_more, marked_is, touched_is}
+use Rattle.trace_format.proofs.Filling.{marked_more, marked_is, touched_is}
 use Rattle.trace_format.proofs.first_touched.Goals as goal
 
 pub loop-i-init : goal.loop-i-init

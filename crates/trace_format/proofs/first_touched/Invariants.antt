@@ -1,7 +1,6 @@
 use Prim.Native.Nat.{◌-◌, ◌≤◌}
-use native.Mathlib.Omega.{arith}
 use lib.ListN.{length}
-use Rattle.trace_format.proofs.Filling.{MarkedTo, marked_more, marked_is, touched_is}
+use Rattle.trace_format.proofs.Filling.{MarkedTo}
 use Rattle.trace_format.proofs.first_touched.Given as goal
 
 abbrev pub invariant-loop-i : goal.invariant-loop-i

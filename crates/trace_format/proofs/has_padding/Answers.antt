@@ -1,7 +1,6 @@
 -- `trace::has_padding` meets its contract.
 use mathlib.Core.Path.{sym}
 use borrow.Author.Tests.{ne_eqb}
-use borrow.Author.Rules.{rules}
 use Rattle.trace_format.proofs.has_padding.Goals as goal
 
 pub returns-then-start-eq0 : goal.returns-then-start-eq0

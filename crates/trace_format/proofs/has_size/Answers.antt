@@ -4,7 +4,6 @@ use Rattle.number.proofs.Tables.{misses}
 use Rattle.list_records.specs.Encoding.{is_record}
 use Rattle.trace_format.specs.Trace.{sizes, size_or, has_size}
 use Rattle.trace_format.proofs.Records.{at_most}
-use borrow.Author.Rules.{rules}
 use Rattle.trace_format.proofs.has_size.Goals as goal
 
 pub returns-in-1 : goal.returns-in-1

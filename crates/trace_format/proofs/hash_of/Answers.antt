@@ -1,9 +1,6 @@
 -- `trace::hash_of` meets its contract: after i turns h is the hash of the first i bytes.
-use Prim.Native.Nat.{◌-◌, ◌≤◌}
-use mathlib.Core.Path.{◌≡◌, refl, ap, ◌∙◌}
+use mathlib.Core.Path.{refl, ap, ◌∙◌}
 use native.Mathlib.Omega.{arith}
-use lib.ListN.{length}
-use lib.ListN.{take}
 use lib.Seq.{take_all}
 use Rattle.trace_format.specs.Fill.{hash_from, hash}
 use Rattle.trace_format.proofs.Filling.{hash_more}

@@ -1,11 +1,8 @@
 use Prim.Native.Nat.{◌-◌, ◌≤◌}
-use mathlib.Core.Path.{◌≡◌, refl, ap, ◌∙◌}
-use native.Mathlib.Omega.{arith}
+use mathlib.Core.Path.{◌≡◌}
 use lib.ListN.{length}
 use lib.ListN.{take}
-use lib.Seq.{take_all}
-use Rattle.trace_format.specs.Fill.{hash_from, hash}
-use Rattle.trace_format.proofs.Filling.{hash_more}
+use Rattle.trace_format.specs.Fill.{hash}
 use Rattle.trace_format.proofs.hash_of.Given as goal
 
 abbrev pub invariant-loop-i : goal.invariant-loop-i

@@ -1,7 +1,6 @@
 -- `trace::hash_step` meets its contract: the exclusive or of two numbers below 2^32 is one.
 use native.Mathlib.Omega.{arith}
 use lib.Bits.{xor_lt}
-use borrow.Author.Rules.{rules}
 use Rattle.trace_format.proofs.hash_step.Goals as goal
 
 pub overflow_mul-result : goal.overflow_mul-result

@@ -3,7 +3,6 @@ use borrow.Author.Tests.{eq-eqb, ne_eqb}
 use mathlib.Core.Bool.{true}
 use Rattle.number.proofs.Tables.{last_row}
 use Rattle.trace_format.specs.Trace.{joined, is_joined}
-use borrow.Author.Rules.{rules}
 use Rattle.trace_format.proofs.is_joined.Goals as goal
 
 pub returns-in-4 : goal.returns-in-4

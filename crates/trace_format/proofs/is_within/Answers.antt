@@ -3,7 +3,6 @@ use Rattle.list_words.specs.Words.{word_at}
 use Rattle.trace_format.proofs.Records.{above, below, last_test}
 use Rattle.list_words.specs.Words.{word_at}
 use Rattle.trace_format.proofs.Records.{above, below}
-use borrow.Author.Rules.{rules}
 use Rattle.trace_format.proofs.is_within.Goals as goal
 
 pub returns-then-most-h : goal.returns-then-most-h

@@ -1,7 +1,6 @@
 -- `trace::made_words` meets its contract: each arm is its row.
 use Rattle.number.proofs.Tables.{last_row}
 use Rattle.trace_format.specs.Calls.{identity_words, made_rows, made_words}
-use borrow.Author.Rules.{rules}
 use Rattle.trace_format.proofs.made_words.Goals as goal
 
 pub returns-in-32 : goal.returns-in-32

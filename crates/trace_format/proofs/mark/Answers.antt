@@ -1,11 +1,9 @@
 -- `trace::mark` meets its contract: after i turns the first i words are marked.
-use Prim.Native.Nat.{◌-◌, ◌≤◌}
-use mathlib.Core.Path.{◌≡◌, refl, ap, ◌∙◌}
+use mathlib.Core.Path.{refl, ap, ◌∙◌}
 use native.Mathlib.Omega.{arith}
-use lib.ListN.{length}
 use lib.Ieee.{binary32, of_bits}
 use Rattle.trace_format.specs.Fill.{tabulate, mark_bits}
-use Rattle.trace_format.proofs.Filling.{filled_to, length_filled, fill_step}
+use Rattle.trace_format.proofs.Filling.{filled_to, fill_step}
 use Rattle.trace_format.proofs.mark.Goals as goal
 
 pub loop-i-init : goal.loop-i-init

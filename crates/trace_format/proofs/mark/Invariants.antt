@@ -1,10 +1,9 @@
 use Prim.Native.Nat.{◌-◌, ◌≤◌}
-use mathlib.Core.Path.{◌≡◌, refl, ap, ◌∙◌}
-use native.Mathlib.Omega.{arith}
+use mathlib.Core.Path.{◌≡◌}
 use lib.ListN.{length}
 use lib.Ieee.{binary32, of_bits}
-use Rattle.trace_format.specs.Fill.{tabulate, mark_bits}
-use Rattle.trace_format.proofs.Filling.{filled_to, length_filled, fill_step}
+use Rattle.trace_format.specs.Fill.{mark_bits}
+use Rattle.trace_format.proofs.Filling.{filled_to}
 use Rattle.trace_format.proofs.mark.Given as goal
 
 abbrev pub invariant-loop-i : goal.invariant-loop-i

@@ -1,7 +1,6 @@
 -- `trace::mark_at` meets its contract.
 use mathlib.Core.Path.{ap, ◌∙◌}
 use lib.Ieee.{binary32, of_bits}
-use borrow.Author.Rules.{rules}
 use Rattle.trace_format.proofs.mark_at.Goals as goal
 
 pub returns : goal.returns

@@ -1,10 +1,8 @@
 -- `trace::read_words` meets its contract: after i turns the first i words are read.
-use Prim.Native.Nat.{◌-◌, ◌≤◌}
-use mathlib.Core.Path.{◌≡◌, refl, ap, ◌∙◌}
+use mathlib.Core.Path.{refl, ap, ◌∙◌}
 use native.Mathlib.Omega.{arith}
-use lib.ListN.{length}
 use Rattle.trace_format.specs.Fill.{tabulate, word_of}
-use Rattle.trace_format.proofs.Filling.{filled_to, length_filled, fill_step}
+use Rattle.trace_format.proofs.Filling.{filled_to, fill_step}
 use Rattle.trace_format.proofs.read_words.Goals as goal
 
 pub loop-i-init : goal.loop-i-init

@@ -1,9 +1,7 @@
 use Prim.Native.Nat.{◌-◌, ◌≤◌}
-use mathlib.Core.Path.{◌≡◌, refl, ap, ◌∙◌}
-use native.Mathlib.Omega.{arith}
-use lib.ListN.{length}
-use Rattle.trace_format.specs.Fill.{tabulate, word_of}
-use Rattle.trace_format.proofs.Filling.{filled_to, length_filled, fill_step}
+use mathlib.Core.Path.{◌≡◌}
+use Rattle.trace_format.specs.Fill.{word_of}
+use Rattle.trace_format.proofs.Filling.{filled_to}
 use Rattle.trace_format.proofs.read_words.Given as goal
 
 abbrev pub invariant-loop-i : goal.invariant-loop-i

@@ -3,7 +3,6 @@ use Prim.Native.Nat.{◌*◌}
 use native.Mathlib.Nat.{add-zero}
 use native.Mathlib.Omega.{arith}
 use Rattle.number.proofs.LittleEndian.{endian_part}
-use borrow.Author.Rules.{rules}
 use Rattle.trace_format.proofs.word_of.Goals as goal
 
 pub returns : goal.returns
