@@ -1,6 +1,5 @@
 use Prim.Native.Nat.{◌-◌}
 use lib.ListN.{length}
-use native.Mathlib.Omega.{arith}
 use Rattle.trace_answers.proofs.name_length.Given as goal
 
 abbrev pub invariant-loop-n : goal.invariant-loop-n

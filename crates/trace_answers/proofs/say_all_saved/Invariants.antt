@@ -1,5 +1,4 @@
 use Prim.Native.Nat.{◌-◌}
-use native.Mathlib.Omega.{arith}
 use Rattle.trace_answers.proofs.say_all_saved.Given as goal
 
 abbrev pub invariant-loop-k : goal.invariant-loop-k

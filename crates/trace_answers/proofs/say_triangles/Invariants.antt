@@ -1,5 +1,4 @@
 use Prim.Native.Nat.{◌-◌}
-use native.Mathlib.Omega.{arith}
 use Rattle.trace_answers.proofs.say_triangles.Given as goal
 
 abbrev pub invariant-loop-t : goal.invariant-loop-t
