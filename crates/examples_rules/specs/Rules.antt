@@ -54,7 +54,8 @@ abbrev pub array_of_type : ℕ → ArrayPointer
 array_of_type ty = record { enabled = true; size = 1; ty = ty; stride = 0; pointer = 0; buffer = 1 }
 
 -- a fetch fails if the type is another, or the buffer is absent
-pub failures : (fetched (λ n. some (0 ∷ [])) 0 [] (array_of_type 0x1404) 0 false ≡ Fetched.UnknownType) × (fetched (λ n. none) 0 [] (array_of_type 0x1400) 0 false ≡ Fetched.NoBuffer)
+pub failures : (fetched (λ n. some (0 ∷ [])) 0 [] (array_of_type 0x1404) 0 false ≡ Fetched.UnknownType)
+    × (fetched (λ n. none) 0 [] (array_of_type 0x1400) 0 false ≡ Fetched.NoBuffer)
 unfolding component_bytes address_of part_of fetched
 failures = (refl, refl)
 

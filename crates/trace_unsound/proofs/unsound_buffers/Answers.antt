@@ -47,4 +47,10 @@ unfolding buffers_made
 returns-in_default c =
     let a = c.args in
     let next-live = c.next_live-k.ensures in
-    record { slot_of_least = _; least = next-live; last = _; greatest = c.last_name-last.ensures; result = last_row (unsound_buffer_rows _ _ a.b) _ _ c.in_default.in_default-own.rest }
+    record {
+      slot_of_least = _;
+      least = next-live;
+      last = _;
+      greatest = c.last_name-last.ensures;
+      result = last_row (unsound_buffer_rows _ _ a.b) _ _ c.in_default.in_default-own.rest;
+    }
