@@ -16,7 +16,7 @@
    - Every bool in a context is 0 or 1. Any other numbers there are safe: those of no sound context are refused with 1. The bytes between
      its fields are nobody's: two equal contexts may differ there.
    - One thread at a time makes calls on a context. Two contexts with a store and an output each share nothing.
-   - It is Linux on x86-64, and the thread's stack has 64 KB or more: a call takes some 40. */
+   - It is Linux on x86-64, and the thread's stack has 64 KB or more: a call takes some 50. */
 #ifndef BEONASUL_H
 #define BEONASUL_H
 
