@@ -198,7 +198,8 @@ module _ (u : stack.MatrixUpdate) (c : Context) where
   kept = currents_of c.stacks
 
   -- the stacks with the answer put back, from the current matrices alone
-  put_current_law : (m : MatrixMode) (t : Stacks) (e : List Float) → put_stack m (with_current (record { entries = e }) (stack_at m t)) t ≡ put_currents (put_current m e (currents_of t)) t
+  put_current_law : (m : MatrixMode) (t : Stacks) (e : List Float)
+      → put_stack m (with_current (record { entries = e }) (stack_at m t)) t ≡ put_currents (put_current m e (currents_of t)) t
   put_current_law MatrixMode.Modelview t e = refl
   put_current_law MatrixMode.Projection t e = refl
   put_current_law MatrixMode.Texture t e = refl

@@ -26,7 +26,15 @@ use Rattle.context.proofs.Parts.{valid_decided}
 -- the state and the stacks have every part of the context but the slots
 same_parts : (c c' : Context) (s s' : List ℕ) → state_of c s ≡ state_of c' s' → c.stacks ≡ c'.stacks → put_buffers c'.buffers c ≡ c'
 same_parts c c' s s' p q =
-    λ i. record { mode = (p i).mode; stacks = q i; buffers = c'.buffers; arrays = (p i).objects.arrays; attributes = (p i).attributes; pipeline = (p i).pipeline; error = (p i).error }
+    λ i. record {
+      mode = (p i).mode;
+      stacks = q i;
+      buffers = c'.buffers;
+      arrays = (p i).objects.arrays;
+      attributes = (p i).attributes;
+      pipeline = (p i).pipeline;
+      error = (p i).error;
+    }
 
 -- a refusal that makes no name changes the error slot alone
 kept_but_noted : (call : Call) (c : Context) (s : List ℕ) (n : ℕ) {c1 : Context} → (StillMakes call n c s → ⊥) → RefusalKeeps call n c s c1 → c1 ≡ noted n c

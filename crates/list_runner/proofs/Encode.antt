@@ -185,7 +185,8 @@ module _ (code : ℕ) (w rest : List ℕ) where
 
 module _ (room : ℕ) where
   -- the calls' bytes lie after others, and n calls are as many as there are or more
-  decodes_from : (n : ℕ) (before : List ℕ) (l : List Call) → All (Encodable room) l → length l ≤ n → decode_to n (before ++ encoded_bytes l) room (encode_from (length before) l) ≡ l
+  decodes_from : (n : ℕ) (before : List ℕ) (l : List Call) → All (Encodable room) l → length l ≤ n
+      → decode_to n (before ++ encoded_bytes l) room (encode_from (length before) l) ≡ l
   unfolding decode_to encode_from encoded_bytes first_call
   decodes_from zero before [] h q = refl
   decodes_from (suc n) before [] h q = refl
@@ -207,7 +208,11 @@ module _ (room : ℕ) where
   calls_words : (place : ℕ) (l : List Call) → length l ≤ length (encode_from place l)
   unfolding encode_from
   calls_words place [] = omega arith
-  calls_words place (k ∷ l) = omega (arith, calls_words (place + length (borrowed_bytes k)) l, length-append (record_words place k) (encode_from (place + length (borrowed_bytes k)) l))
+  calls_words place (k ∷ l) = omega (
+    arith,
+    calls_words (place + length (borrowed_bytes k)) l,
+    length-append (record_words place k) (encode_from (place + length (borrowed_bytes k)) l),
+  )
 
   pub decodes : (l : List Call) → All (Encodable room) l → decode (encoded_bytes l) room (encode l) ≡ l
   decodes l h = decodes_from (length (encode l)) [] l h (calls_words 0 l)

@@ -74,7 +74,8 @@ length_zero l h = go (leb (2 + word_at l 1) (length l)) h
 
 -- words that are no record's have no call
 not_a_record : (words : List ℕ) (place : ℕ) (bytes : List ℕ) (room : ℕ)
-    → 2 ≤ record_length (drop place words) → is_record (word_at (drop place words) 0) (record_length (drop place words) - 2) ≡ false → first_call bytes room (drop place words) ≡ none
+    → 2 ≤ record_length (drop place words) → is_record (word_at (drop place words) 0) (record_length (drop place words) - 2) ≡ false
+    → first_call bytes room (drop place words) ≡ none
 unfolding first_call
 not_a_record words place bytes room h f =
     let l = drop place words in

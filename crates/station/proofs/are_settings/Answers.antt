@@ -28,4 +28,5 @@ pub returns : goal.returns
 returns c = last_setting _ (c.is_compare.ensures.yes c.if-not-is_compare.false)
     (c.is_compare-2.ensures.yes c.if-not-is_compare-2.false)
     (c.is_blend.ensures.yes c.if-not-is_blend.false)
-    (c.is_blend-2.ensures.yes c.if-not-is_blend-2.false) (c.is_cull.ensures.yes c.if-not-is_cull.false) (c.is_face.ensures.yes c.if-not-is_face.false) (c.is_fog.ensures.yes c.if-not-is_fog.false) c.are_units.ensures
+    (c.is_blend-2.ensures.yes c.if-not-is_blend-2.false) (c.is_cull.ensures.yes c.if-not-is_cull.false) (c.is_face.ensures.yes c.if-not-is_face.false)
+    (c.is_fog.ensures.yes c.if-not-is_fog.false) c.are_units.ensures

@@ -29,4 +29,5 @@ pub returns : goal.returns
 returns c =
     let us = c.args.us in
     let four : length us ≡ 4 = search (length_mapped, rules) in
-    last_unit us _ four (c.is_env.ensures.yes c.if-not-is_env.false) (c.is_env-2.ensures.yes c.if-not-is_env-2.false) (c.is_env-3.ensures.yes c.if-not-is_env-3.false) c.is_env-4.ensures
+    last_unit us _ four (c.is_env.ensures.yes c.if-not-is_env.false) (c.is_env-2.ensures.yes c.if-not-is_env-2.false) (c.is_env-3.ensures.yes c.if-not-is_env-3.false)
+    c.is_env-4.ensures
