@@ -1,7 +1,7 @@
 #!/usr/bin/env python3
 """Brings the names of definitions and lemmas to today's spelling: words in snake case.
 
-usage: tools/respell.py [--report]     at the top of a checkout in which port.py has just run
+usage: tools/respell.py [--report]     at the top of a checkout whose other spelling is of today
 
 It reads which names the files of specs/ and proofs/ declare, and writes each in snake case wherever it stands: in those files, and in the
 ghost parts of src/. Functions of src/, strings and what Rattle names itself keep their names. Where two names would fall together the

@@ -1,4 +1,4 @@
--- The worked examples P1 to P10 of document 01 as one checked list: `bench-examples` is a proof of all ten. Each speaks of the definitions that the
+-- The worked examples P1 to P10 of document 01 as one checked list: `bench_examples` is a proof of all ten. Each speaks of the definitions that the
 -- contracts cite.
 use Rattle.std.specs.Prelude.{true, false, List, [], ◌∷◌, ◌++◌, map, ◌≡◌, refl, ℕ, zero, suc, pos, get_or, replicate, Float}
 use Rattle.std.proofs.Math.Option.{some}

@@ -14,7 +14,7 @@ use Rattle.context.specs.Calls.{BufferCall, gen_buffers, bind_buffer, delete_buf
 use Rattle.context.specs.Calls.{attribute, pipeline, take_error, draw}
 use Rattle.context.specs.Contract.{draw_call}
 
--- ---- the call of a record. A code that no row has counts as the last of its group: `recordSizes` says which codes there are
+-- ---- the call of a record. A code that no row has counts as the last of its group: `record_sizes` says which codes there are
 
 -- f: the words as f32
 abbrev pub update_rows : List Float → List (Row MatrixUpdate)

@@ -50,7 +50,7 @@ floats_are : (l : List Float) → All IsFloat l → map (of_bits binary32) (map 
 floats_are [] h = refl
 floats_are (x ∷ l) h = λ i. float_is x h.0 i ∷ floats_are l h.1 i
 
--- n f32 from the k-th word on: `fourFloats` and `matrixFloats` compute to it
+-- n f32 from the k-th word on: `four_floats` and `matrix_floats` compute to it
 abbrev floats_in : ℕ → ℕ → List ℕ → List Float
 floats_in k zero w = []
 floats_in k (suc n) w = float_at w k ∷ floats_in (suc k) n w

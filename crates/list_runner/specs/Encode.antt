@@ -184,7 +184,7 @@ output_length take_error = 0
 output_length (draw d) = d.room
 
 -- The calls that have a record where an output of `room` f32 is lent. The arguments are within their types, as in every call of a program. Two bounds are the encoding's own:
--- one word says how many words a record has (as many at every place; only `deleteBuffers` and a draw of a list can have too many), and no draw has more output than is lent.
+-- one word says how many words a record has (as many at every place; only `delete_buffers` and a draw of a list can have too many), and no draw has more output than is lent.
 pub record Encodable (room : ℕ) (k : Call) : Type 0 where
   pub typed : All InType (record_of k).arguments
   pub short : IsWord (length (record_words 0 k))

@@ -37,11 +37,11 @@ is_made store code = eqb store store_bytes || (not (is_call code) || code_borrow
 
 -- ---- the bounds that a state decides
 
--- guest bytes of a number can be read at an address, as `inGuest` of crate fetch has it of the bytes (`readable-is`)
+-- guest bytes of a number can be read at an address, as `in_guest` of crate fetch has it of the bytes (`readable_is`)
 abbrev pub is_readable : ℕ → ℕ → ℕ → ℕ → Bool
 is_readable base size address len = leb base address && leb ((address - base) + len) size
 
--- so many indices of a type can be read in guest memory: no element buffer is bound. A buffer holds fewer than the bound (`few-in-a-buffer`)
+-- so many indices of a type can be read in guest memory: no element buffer is bound. A buffer holds fewer than the bound (`few_in_a_buffer`)
 unfoldable pub can_be_read : Borrowed → ℕ → ℕ → ℕ → ℕ → Bool
 can_be_read v element count ty pointer =
     not (eqb (index_width ty) 0) && (eqb element 0 && is_readable v.base v.guest pointer (count * index_width ty))

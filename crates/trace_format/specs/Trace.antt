@@ -36,7 +36,7 @@ packed n = (n + 3) / 4
 abbrev pub head : List ℕ → List ℕ
 head w = word_at w 0 ∷ word_at w 1 ∷ word_at w 2 ∷ word_at w 3 ∷ word_at w 4 ∷ []
 
--- how many words a record of n words that begin with h must have; the calls that are not here have the words of a call's record (`isRecord`)
+-- how many words a record of n words that begin with h must have; the calls that are not here have the words of a call's record (`is_record`)
 abbrev pub sizes : ℕ → List ℕ → List (Row ℕ)
 sizes n h =
     0x01 names min n 16

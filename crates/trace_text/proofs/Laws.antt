@@ -43,7 +43,7 @@ shown nan = refl
 shown (inf s) = refl
 shown (fin s m e) = refl
 
--- the two cases of `putText`, from the place where the text starts
+-- the two cases of `put_text`, from the place where the text starts
 module _ (bytes : List ℕ) (at : ℕ) (text : List ℕ) (start : ℕ) (held_at : start ≡ min at (length bytes)) where
   pub put_fits : length text ≤ length bytes - start → page (overwrite bytes start text) (start + length text) ≡ put_text (page bytes at) text
   unfolding put_held
