@@ -1,7 +1,6 @@
 -- `reader::checked` meets its contract: only a record with no fault is going on.
 use mathlib.Core.Path.{sym, ◌∙◌}
 use Rattle.trace_reader.proofs.Going.{stopped, sound_kept}
-use borrow.Author.Rules.{rules}
 use Rattle.trace_reader.proofs.checked.Goals as goal
 
 pub returns-in-Shape : goal.returns-in-Shape

@@ -2,7 +2,6 @@
 use mathlib.Core.Path.{refl, sym}
 use lib.Seq.{length-take-le, length_front}
 use Rattle.trace_reader.proofs.Going.{stopped}
-use borrow.Author.Rules.{rules}
 use Rattle.trace_reader.proofs.read_body.Goals as goal
 
 pub returns-then-body-size : goal.returns-then-body-size

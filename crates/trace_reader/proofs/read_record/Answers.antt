@@ -1,7 +1,6 @@
 -- `reader::read_record` meets its contract.
 use Rattle.trace_reader.proofs.Going.{stopped, read_from}
 use Rattle.trace_reader.proofs.Reading.{words_read_law}
-use borrow.Author.Rules.{rules}
 use Rattle.trace_reader.proofs.read_record.Goals as goal
 
 pub returns-then-got-eq0 : goal.returns-then-got-eq0
