@@ -2,7 +2,6 @@
 use mathlib.Core.Path.{refl}
 use native.Mathlib.Omega.{arith}
 use Rattle.trace_dump.proofs.Sections.{no_bit}
-use borrow.Author.Rules.{rules}
 use Rattle.trace_dump.proofs.has_section.Goals as goal
 
 pub returns-then-k-gt31 : goal.returns-then-k-gt31

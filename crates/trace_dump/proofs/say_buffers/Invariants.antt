@@ -1,4 +1,3 @@
-use native.Mathlib.Omega.{arith}
 use Rattle.trace_dump.proofs.say_buffers.Given as goal
 
 abbrev pub invariant-loop-left : goal.invariant-loop-left
