@@ -208,11 +208,9 @@ module _ (room : ℕ) where
   calls_words : (place : ℕ) (l : List Call) → length l ≤ length (encode_from place l)
   unfolding encode_from
   calls_words place [] = omega arith
-  calls_words place (k ∷ l) = omega (
-    arith,
-    calls_words (place + length (borrowed_bytes k)) l,
-    length-append (record_words place k) (encode_from (place + length (borrowed_bytes k)) l),
-  )
+  calls_words place (k ∷ l) =
+      let next = place + length (borrowed_bytes k) in
+      omega (arith, calls_words next l, length-append (record_words place k) (encode_from next l))
 
   pub decodes : (l : List Call) → All (Encodable room) l → decode (encoded_bytes l) room (encode l) ≡ l
   decodes l h = decodes_from (length (encode l)) [] l h (calls_words 0 l)

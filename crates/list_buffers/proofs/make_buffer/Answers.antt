@@ -1,14 +1,10 @@
 -- `list_buffers::make_buffer` meets its contract: each arm is its row.
-use borrow.Author.Rules.{rules}
 use Rattle.number.proofs.Tables.{last_row}
 use Rattle.list_buffers.proofs.Answers.{Answers, answers_is, replied_is}
 use mathlib.Core.Path.{refl, sym, ap, ◌∙◌}
 use Rattle.list_records.specs.Encoding.{buffer_rows, buffer_of}
 use Rattle.context.specs.Calls.{gen_buffers, bind_buffer}
 use Rattle.list_buffers.proofs.make_buffer.Goals as goal
-
-pub long_at-requires : goal.long_at-requires
-long_at-requires c = search rules
 
 pub returns-in-32 : goal.returns-in-32
 unfolding buffer_of

@@ -12,13 +12,6 @@ use Rattle.list_runner.proofs.Calls.{is_mode, is_push, is_pop, is_update, is_buf
 use Rattle.list_runner.proofs.Calls.{performed, performed_draw, placed, currents_placed}
 use Rattle.list_runner.proofs.Running.{next_inside, progress_start, progress_next, progress_stop, progress_done, Stepped, joined, stayed}
 use Rattle.list_runner.proofs.run_on.Goals as goal
-use Rattle.list_runner.proofs.run_on.Goals.{then-code-eq20, else-code-eq20+then-code-eq21, else-code-eq20+else-code-eq21+then-code-eq16}
-use Rattle.list_runner.proofs.run_on.Goals.{else-code-eq20+else-code-eq21+else-code-eq16+then-code-lt32, else-code-eq20+else-code-eq21+else-code-eq16+else-code-lt32+then-code-lt48}
-use Rattle.list_runner.proofs.run_on.Goals.{else-code-eq20+else-code-eq21+else-code-eq16+else-code-lt32+else-code-lt48+then-code-lt54}
-use Rattle.list_runner.proofs.run_on.Goals.{else-code-eq20+else-code-eq21+else-code-eq16+else-code-lt32+else-code-lt48+else-code-lt54+then-code-lt64}
-use Rattle.list_runner.proofs.run_on.Goals.{else-code-eq20+else-code-eq21+else-code-eq16+else-code-lt32+else-code-lt48+else-code-lt54+else-code-lt64+then-code-lt80}
-use Rattle.list_runner.proofs.run_on.Goals.{else-code-eq20+else-code-eq21+else-code-eq16+else-code-lt32+else-code-lt48+else-code-lt54+else-code-lt64+else-code-lt80+then-code-eq80}
-use Rattle.list_runner.proofs.run_on.Goals.{else-code-eq20+else-code-eq21+else-code-eq16+else-code-lt32+else-code-lt48+else-code-lt54+else-code-lt64+else-code-lt80+else-code-eq80}
 
 pub loop-left-init : goal.loop-left-init
 loop-left-init c = (progress_start, omega arith, refl, refl)
@@ -93,50 +86,54 @@ loop-left-preserved c =
     let is_one = c.if-size-eq0.false in
     let code = c.word_at-code in
     let i = next_inside words bytes at.place size.result 0 size.ensures is_one in
-    let w = take (at.place + size.result - (at.place + 2)) (drop (at.place + 2) words) in
-    let step : Stepped at.c at.store at.out (call_of bytes (length at.out) code.result w) c.if-code-eq20.number c.if-code-eq20.value c.if-code-eq20.c c.if-code-eq20.store
-    c.if-code-eq20.out =
-    elim c.if-code-eq20.branch [
-      | then-code-eq20 w ↦
+    let v = take (at.place + size.result - (at.place + 2)) (drop (at.place + 2) words) in
+    let room = length at.out in
+    let after = c.if-code-eq20 in
+    let step : Stepped at.c at.store at.out (call_of bytes room code.result v) after.number after.value after.c after.store after.out =
+    elim after.branch [
+      | goal.then-code-eq20 w ↦
           let m = w.push_matrix-r.ensures _ in
-          joined (stayed (performed (is_push bytes _ _ _ w.if-code-eq20.true) m refl refl)) w.store-is w.out-is (placed m w.c-is) w.number-is w.value-is
-      | else-code-eq20+then-code-eq21 w ↦
+          let call = is_push bytes room code.result v w.if-code-eq20.true in
+          joined (stayed (performed call m refl refl)) w.store-is w.out-is (placed m w.c-is) w.number-is w.value-is
+      | goal.else-code-eq20+then-code-eq21 w ↦
           let m = w.pop_matrix-r.ensures _ in
-          joined (stayed (performed (is_pop bytes _ _ _ w.if-code-eq21.true) m refl refl)) w.store-is w.out-is (placed m w.c-is) w.number-is w.value-is
-      | else-code-eq20+else-code-eq21+then-code-eq16 w ↦
+          let call = is_pop bytes room code.result v w.if-code-eq21.true in
+          joined (stayed (performed call m refl refl)) w.store-is w.out-is (placed m w.c-is) w.number-is w.value-is
+      | goal.else-code-eq20+else-code-eq21+then-code-eq16 w ↦
           let m = w.set_matrix_mode-r.ensures _ in
-          joined (stayed (performed (ap mode w.word_at.ensures ∙ is_mode bytes _ _ _ w.if-code-eq16.true) m refl refl)) w.store-is w.out-is (w.c-is) w.number-is w.value-is
-      | else-code-eq20+else-code-eq21+else-code-eq16+then-code-lt32 w ↦
+          let call = ap mode w.word_at.ensures ∙ is_mode bytes room code.result v w.if-code-eq16.true in
+          joined (stayed (performed call m refl refl)) w.store-is w.out-is w.c-is w.number-is w.value-is
+      | goal.else-code-eq20+else-code-eq21+else-code-eq16+then-code-lt32 w ↦
           let m = w.make_update-r.ensures _ in
           let floats = ap (λ (f : List Float). matrix (update (update_of code.result f))) w.matrix_floats.ensures in
-          joined (stayed (performed (floats ∙ is_update bytes _ _ _ w.if-code-eq20.false w.if-code-eq21.false w.if-code-eq16.false w.if-code-lt32.true) m refl refl)) w.store-is
-          w.out-is (currents_placed m w.currents-m.ensures w.with_currents-part.ensures w.c-is) w.number-is w.value-is
-      | else-code-eq20+else-code-eq21+else-code-eq16+else-code-lt32+then-code-lt48 w ↦
+          let call = floats ∙ is_update bytes room code.result v w.if-code-eq20.false w.if-code-eq21.false w.if-code-eq16.false w.if-code-lt32.true in
+          let context = currents_placed m w.currents-m.ensures w.with_currents-part.ensures w.c-is in
+          joined (stayed (performed call m refl refl)) w.store-is w.out-is context w.number-is w.value-is
+      | goal.else-code-eq20+else-code-eq21+else-code-eq16+else-code-lt32+then-code-lt48 w ↦
           let m = w.make_buffer-r.ensures in
-          joined (performed (is_buffer bytes _ _ _ w.if-code-lt32.false w.if-code-lt48.true) m.made.1 refl m.value, w.make_buffer-r.auto.store, refl) w.store-is w.out-is
-          (placed m.made.1 w.c-is) w.number-is w.value-is
-      | else-code-eq20+else-code-eq21+else-code-eq16+else-code-lt32+else-code-lt48+then-code-lt54 w ↦
+          let call = is_buffer bytes room code.result v w.if-code-lt32.false w.if-code-lt48.true in
+          joined (performed call m.made.1 refl m.value, w.make_buffer-r.auto.store, refl)
+          w.store-is w.out-is (placed m.made.1 w.c-is) w.number-is w.value-is
+      | goal.else-code-eq20+else-code-eq21+else-code-eq16+else-code-lt32+else-code-lt48+then-code-lt54 w ↦
           let m = w.array_record-r.ensures _ in
-          joined (stayed (performed (is_array bytes _ _ _ w.if-code-lt48.false w.if-code-lt54.true) m refl refl)) w.store-is w.out-is (placed m w.c-is) w.number-is w.value-is
-      | else-code-eq20+else-code-eq21+else-code-eq16+else-code-lt32+else-code-lt48+else-code-lt54+then-code-lt64 w ↦
+          let call = is_array bytes room code.result v w.if-code-lt48.false w.if-code-lt54.true in
+          joined (stayed (performed call m refl refl)) w.store-is w.out-is (placed m w.c-is) w.number-is w.value-is
+      | goal.else-code-eq20+else-code-eq21+else-code-eq16+else-code-lt32+else-code-lt48+else-code-lt54+then-code-lt64 w ↦
           let m = w.attribute_record-r.ensures _ in
-          joined (stayed (performed (is_attribute bytes _ _ _ w.if-code-lt48.false w.if-code-lt54.false w.if-code-lt64.true) m refl refl)) w.store-is w.out-is (placed m w.c-is)
-          w.number-is w.value-is
-      | else-code-eq20+else-code-eq21+else-code-eq16+else-code-lt32+else-code-lt48+else-code-lt54+else-code-lt64+then-code-lt80 w ↦
+          let call = is_attribute bytes room code.result v w.if-code-lt48.false w.if-code-lt54.false w.if-code-lt64.true in
+          joined (stayed (performed call m refl refl)) w.store-is w.out-is (placed m w.c-is) w.number-is w.value-is
+      | goal.else-code-eq20+else-code-eq21+else-code-eq16+else-code-lt32+else-code-lt48+else-code-lt54+else-code-lt64+then-code-lt80 w ↦
           let m = w.pipeline_record-r.ensures _ in
-          joined (stayed (performed (is_pipeline bytes _ _ _ w.if-code-lt48.false w.if-code-lt54.false w.if-code-lt64.false w.if-code-lt80.true) m refl refl)) w.store-is w.out-is
-          (placed m w.c-is) w.number-is w.value-is
-      | else-code-eq20+else-code-eq21+else-code-eq16+else-code-lt32+else-code-lt48+else-code-lt54+else-code-lt64+else-code-lt80+then-code-eq80 w ↦
+          let call = is_pipeline bytes room code.result v w.if-code-lt48.false w.if-code-lt54.false w.if-code-lt64.false w.if-code-lt80.true in
+          joined (stayed (performed call m refl refl)) w.store-is w.out-is (placed m w.c-is) w.number-is w.value-is
+      | goal.else-code-eq20+else-code-eq21+else-code-eq16+else-code-lt32+else-code-lt48+else-code-lt54+else-code-lt64+else-code-lt80+then-code-eq80 w ↦
           let m = w.make_take_error-r.ensures.1 _ in
-          joined (stayed (performed (is_take_error bytes _ _ _ w.if-code-lt48.false w.if-code-lt54.false w.if-code-lt64.false w.if-code-lt80.false w.if-code-eq80.true) m refl
-          w.make_take_error-r.ensures.2)) w.store-is w.out-is (placed m w.c-is) w.number-is w.value-is
-      | else-code-eq20+else-code-eq21+else-code-eq16+else-code-lt32+else-code-lt48+else-code-lt54+else-code-lt64+else-code-lt80+else-code-eq80 w ↦
+          let call = is_take_error bytes room code.result v w.if-code-lt48.false w.if-code-lt54.false w.if-code-lt64.false w.if-code-lt80.false w.if-code-eq80.true in
+          joined (stayed (performed call m refl w.make_take_error-r.ensures.2)) w.store-is w.out-is (placed m w.c-is) w.number-is w.value-is
+      | goal.else-code-eq20+else-code-eq21+else-code-eq16+else-code-lt32+else-code-lt48+else-code-lt54+else-code-lt64+else-code-lt80+else-code-eq80 w ↦
           let m = w.make_draw-r.ensures in
-          joined (
-            performed_draw (is_draw_law bytes _ _ _ w.if-code-lt48.false w.if-code-lt54.false w.if-code-lt64.false w.if-code-lt80.false w.if-code-eq80.false) m,
-            refl,
-            w.make_draw-r.auto.out,
-          ) w.store-is w.out-is (placed m.did.0 w.c-is) w.number-is w.value-is
+          let call = is_draw_law bytes room code.result v w.if-code-lt48.false w.if-code-lt54.false w.if-code-lt64.false w.if-code-lt80.false w.if-code-eq80.false in
+          joined (performed_draw call m, refl, w.make_draw-r.auto.out) w.store-is w.out-is (placed m.did.0 w.c-is) w.number-is w.value-is
     ]
     in (
       progress_next at.invariant.0 c.loop-left-test.true at.invariant.3 size.ensures is_one code.ensures step.0,
