@@ -1,1 +1,2 @@
 pub mod Adapt
+pub mod Lent
