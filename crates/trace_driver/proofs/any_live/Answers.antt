@@ -1,6 +1,5 @@
 -- `driver::any_live` meets its contract.
 use Rattle.trace_driver.proofs.Living.{live_is}
-use borrow.Author.Rules.{rules}
 use Rattle.trace_driver.proofs.any_live.Goals as goal
 
 pub returns : goal.returns

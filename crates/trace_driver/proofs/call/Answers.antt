@@ -1,6 +1,5 @@
 -- `driver::call` meets its contract.
 use mathlib.Core.Path.{sym}
-use borrow.Author.Rules.{rules}
 use Rattle.trace_driver.proofs.call.Goals as goal
 
 pub returns : goal.returns

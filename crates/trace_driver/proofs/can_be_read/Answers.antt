@@ -1,6 +1,5 @@
 -- `driver::can_be_read` meets its contract.
 use Rattle.trace_driver.proofs.Reading.{no_width, in_a_buffer, below_the_base, by_bytes, by_shorts}
-use borrow.Author.Rules.{rules}
 use Rattle.trace_driver.proofs.can_be_read.Goals as goal
 
 pub returns-then-width-eq0 : goal.returns-then-width-eq0

@@ -4,7 +4,6 @@ use lib.ListN.{length}
 use Rattle.number.proofs.Tables.{last_row}
 use Rattle.trace_driver.specs.Draws.{trace_source_rows, trace_source}
 use Rattle.trace_driver.proofs.Drawing.{did_as}
-use borrow.Author.Rules.{rules}
 use Rattle.trace_driver.proofs.draw.Goals as goal
 
 pub returns-in-96 : goal.returns-in-96

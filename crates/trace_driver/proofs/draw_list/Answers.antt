@@ -3,7 +3,6 @@ use mathlib.Core.Path.{ap}
 use lib.ListN.{length}
 use Rattle.vertex.specs.Scene.{list}
 use Rattle.trace_driver.proofs.Drawing.{did_as}
-use borrow.Author.Rules.{rules}
 use Rattle.trace_driver.proofs.draw_list.Goals as goal
 
 pub returns : goal.returns

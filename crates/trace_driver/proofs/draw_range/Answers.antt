@@ -2,7 +2,6 @@
 use lib.ListN.{length}
 use Rattle.vertex.specs.Scene.{range}
 use Rattle.trace_driver.proofs.Drawing.{did_as}
-use borrow.Author.Rules.{rules}
 use Rattle.trace_driver.proofs.draw_range.Goals as goal
 
 pub returns : goal.returns

@@ -2,7 +2,6 @@
 use lib.ListN.{length}
 use Rattle.vertex.specs.Scene.{elements}
 use Rattle.trace_driver.proofs.Drawing.{did_as}
-use borrow.Author.Rules.{rules}
 use Rattle.trace_driver.proofs.draw_stored.Goals as goal
 
 pub returns : goal.returns

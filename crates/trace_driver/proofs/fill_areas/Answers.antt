@@ -2,7 +2,6 @@
 use mathlib.Core.Path.{sym, ap}
 use Rattle.number.proofs.Tables.{last_row}
 use Rattle.trace_driver.specs.Settings.{page_bytes, store_rows, store_after, guest_rows, guest_after}
-use borrow.Author.Rules.{rules}
 use Rattle.trace_driver.proofs.fill_areas.Goals as goal
 
 pub returns-in-3 : goal.returns-in-3

@@ -1,6 +1,5 @@
 -- `driver::is_few` meets its contract.
 use mathlib.Core.Path.{sym}
-use borrow.Author.Rules.{rules}
 use Rattle.trace_driver.proofs.is_few.Goals as goal
 
 pub returns-then-can_be_read : goal.returns-then-can_be_read

@@ -2,7 +2,6 @@
 use mathlib.Core.Path.{sym}
 use borrow.Author.Tests.{eq-eqb, ne_eqb}
 use Rattle.trace_driver.specs.Permitted.{is_made}
-use borrow.Author.Rules.{rules}
 use Rattle.trace_driver.proofs.is_made.Goals as goal
 
 pub returns-then-store-eq-STORE_BYTES : goal.returns-then-store-eq-STORE_BYTES

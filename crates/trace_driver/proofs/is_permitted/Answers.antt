@@ -1,6 +1,5 @@
 -- `driver::is_permitted` meets its contract.
 use mathlib.Core.Path.{sym}
-use borrow.Author.Rules.{rules}
 use Rattle.trace_driver.proofs.is_permitted.Goals as goal
 
 pub returns-then-not-is_made : goal.returns-then-not-is_made

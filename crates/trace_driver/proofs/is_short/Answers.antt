@@ -1,5 +1,4 @@
 -- `driver::is_short` meets its contract.
-use borrow.Author.Rules.{rules}
 use Rattle.trace_driver.proofs.is_short.Goals as goal
 
 pub returns-then-enabled : goal.returns-then-enabled

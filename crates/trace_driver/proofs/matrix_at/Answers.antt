@@ -1,5 +1,4 @@
 -- `driver::matrix_at` meets its contract.
-use borrow.Author.Rules.{rules}
 use Rattle.trace_driver.proofs.matrix_at.Goals as goal
 
 pub returns : goal.returns

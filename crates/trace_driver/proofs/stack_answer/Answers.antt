@@ -1,7 +1,6 @@
 -- `driver::stack_answer` meets its contract: each arm is its row.
 use Rattle.number.proofs.Tables.{last_row}
 use Rattle.trace_driver.specs.Stacks.{record_rows, stack_record}
-use borrow.Author.Rules.{rules}
 use Rattle.trace_driver.proofs.stack_answer.Goals as goal
 
 pub returns-in-112 : goal.returns-in-112

@@ -1,6 +1,5 @@
 -- `driver::stack_of` meets its contract: after k turns the first k saved matrices are read.
 use mathlib.Core.Path.{◌≡◌, refl, ap, ◌∙◌}
-use Prim.Native.Nat.{◌-◌, ◌≤◌}
 use native.Mathlib.Omega.{arith}
 use mathlib.Core.List.{append-nil}
 use lib.ListN.{replicate}

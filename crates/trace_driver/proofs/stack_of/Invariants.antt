@@ -1,11 +1,8 @@
-use mathlib.Core.Path.{◌≡◌, refl, ap, ◌∙◌}
+use mathlib.Core.Path.{◌≡◌}
 use Prim.Native.Nat.{◌-◌, ◌≤◌}
-use native.Mathlib.Omega.{arith}
-use mathlib.Core.List.{append-nil}
 use lib.ListN.{replicate}
-use Rattle.stack.specs.Stack.{limit, no_matrix}
-use Rattle.trace_format.specs.Fill.{tabulate}
-use Rattle.trace_format.proofs.Filling.{filled_to, fill_step}
+use Rattle.stack.specs.Stack.{limit}
+use Rattle.trace_format.proofs.Filling.{filled_to}
 use Rattle.trace_driver.specs.Stacks.{saved_at}
 use Rattle.trace_driver.proofs.stack_of.Given as goal
 

@@ -3,7 +3,6 @@ use mathlib.Core.Bool.{true}
 use mathlib.Core.Path.{sym}
 use Rattle.number.proofs.Tables.{last_row}
 use Rattle.trace_driver.specs.Permitted.{state_rows, suits}
-use borrow.Author.Rules.{rules}
 use Rattle.trace_driver.proofs.suits_state.Goals as goal
 
 pub returns-in-3 : goal.returns-in-3

@@ -3,7 +3,6 @@ use mathlib.Core.Path.{sym}
 use Rattle.list_words.specs.Words.{word_at}
 use Rattle.number.proofs.Tables.{last_row}
 use Rattle.trace_driver.specs.Settings.{borrowed_rows, borrowed_after}
-use borrow.Author.Rules.{rules}
 use Rattle.trace_driver.proofs.Borrowed.after.Goals as goal
 
 pub returns-in-5 : goal.returns-in-5
