@@ -28,7 +28,7 @@ use Rattle.station.specs.declared.StationReply.{StationReply}
 use Rattle.station.specs.declared.KeptReply.{KeptReply}
 use Rattle.station.specs.Kept.{mode_code, compare_code, blend_code, cull_code, face_code, fog_code, env_code, mode_from, compare_from, blend_from, cull_from, face_from, fog_from}
 use Rattle.station.specs.Kept.{env_from, kept_unit, unit_from, kept_settings, settings_from, kept_of, context_from}
-use Rattle.station.specs.Boundary.{Encodes, FreshKept, Refused, Made, Ran}
+use Rattle.station.specs.Boundary.{Encodes, FreshKept, Refused, Ran}
 use Rattle.station.specs.BoundaryCode.{refusal_of, answer_in}
 
 mode_back : (m : MatrixMode) → mode_from (mode_code m) ≡ m

@@ -1,6 +1,4 @@
 -- `station::answer_in` meets its contract.
-use mathlib.Core.Path.{sym, ap}
-use mathlib.Core.Bool.{cond}
 use Rattle.station.proofs.answer_in.Goals as goal
 
 pub returns-then-whole : goal.returns-then-whole

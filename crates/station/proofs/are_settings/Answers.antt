@@ -1,6 +1,4 @@
-use borrow.Author.Tests.{not-true, not-false}
 use Rattle.station.proofs.Parts.{refuses, depth_func_law, alpha_func_law, src, dst, cull_mode, front_face_law, fog_mode, last_setting}
-use borrow.Author.Rules.{rules}
 use Rattle.station.proofs.are_settings.Goals as goal
 
 pub returns-then-not-is_compare : goal.returns-then-not-is_compare

@@ -1,7 +1,6 @@
 use mathlib.Core.Path.{◌≡◌}
 use native.Mathlib.Omega.{arith}
 use lib.ListN.{length}
-use borrow.Author.Tests.{not-true, not-false}
 use Rattle.number.proofs.Lists.{length_mapped}
 use Rattle.station.proofs.Parts.{refuses, each_unit, last_unit}
 use borrow.Author.Rules.{rules}

@@ -1,5 +1,4 @@
 -- `station::beonasul_fresh` meets its contract: what is kept of a fresh context.
-use borrow.Author.Rules.{rules}
 use Rattle.station.proofs.Back.{fresh_kept}
 use Rattle.station.proofs.beonasul_fresh.Goals as goal
 

@@ -1,4 +1,3 @@
-use borrow.Author.Rules.{rules}
 use Rattle.station.proofs.context_from.Goals as goal
 
 pub returns : goal.returns

@@ -1,7 +1,6 @@
 use mathlib.Core.Path.{◌∙◌, ap}
 use Rattle.station.specs.Kept.{blend_code}
 use Rattle.station.proofs.Parts.{same}
-use borrow.Author.Rules.{rules}
 use Rattle.station.proofs.is_blend.Goals as goal
 
 pub returns : goal.returns

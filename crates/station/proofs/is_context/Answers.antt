@@ -1,6 +1,4 @@
-use borrow.Author.Tests.{not-true, not-false}
 use Rattle.station.proofs.Parts.{refuses, both}
-use borrow.Author.Rules.{rules}
 use Rattle.station.proofs.is_context.Goals as goal
 
 pub returns-then-not-is_mode : goal.returns-then-not-is_mode

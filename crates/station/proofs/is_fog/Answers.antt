@@ -1,7 +1,6 @@
 use mathlib.Core.Path.{◌∙◌, ap}
 use Rattle.station.specs.Kept.{fog_code}
 use Rattle.station.proofs.Parts.{same}
-use borrow.Author.Rules.{rules}
 use Rattle.station.proofs.is_fog.Goals as goal
 
 pub returns : goal.returns

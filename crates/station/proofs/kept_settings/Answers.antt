@@ -1,5 +1,4 @@
 use Rattle.station.specs.Kept.{kept_settings}
-use borrow.Author.Rules.{rules}
 use Rattle.station.proofs.kept_settings.Goals as goal
 
 pub returns : goal.returns

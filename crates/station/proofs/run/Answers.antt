@@ -1,6 +1,4 @@
 -- `station::run` meets its contract: the list is made on the context of the numbers.
-use borrow.Author.Tests.{not-true, not-false}
-use borrow.Author.Rules.{rules}
 use Rattle.station.proofs.Parts.{whole, apart}
 use Rattle.station.proofs.Back.{had_run, run_refused}
 use Rattle.station.proofs.run.Goals as goal

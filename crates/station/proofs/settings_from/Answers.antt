@@ -1,5 +1,4 @@
 use Rattle.station.specs.Kept.{settings_from}
-use borrow.Author.Rules.{rules}
 use Rattle.station.proofs.settings_from.Goals as goal
 
 pub returns : goal.returns
