@@ -1,2 +1,3 @@
 pub mod Adapt
 pub mod Lent
+pub mod Lends
