@@ -1,6 +1,5 @@
 -- `inspect` meets its contract.
 use Rattle.trace_session.proofs.Done.{made_fresh, made_unsound, kept}
-use borrow.Author.Rules.{rules}
 use Rattle.trace_session.proofs.inspect.Goals as goal
 
 pub returns-then-code-eq2 : goal.returns-then-code-eq2

@@ -1,6 +1,5 @@
 -- `make_draw` meets its contract.
 use mathlib.Core.Path.{refl}
-use borrow.Author.Rules.{rules}
 use Rattle.trace_session.proofs.make_draw.Goals as goal
 
 pub returns : goal.returns

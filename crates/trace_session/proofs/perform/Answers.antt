@@ -3,7 +3,6 @@ use native.Mathlib.Omega.{arith}
 use Rattle.list_words.specs.Words.{word_at}
 use Rattle.list_words.proofs.Words.{held_count}
 use Rattle.trace_session.proofs.Done.{drawn, called, others}
-use borrow.Author.Rules.{rules}
 use Rattle.trace_session.proofs.perform.Goals as goal
 use Rattle.trace_session.proofs.perform.Goals.{then-code-lt112+else-code-ge96+else-code-ge16, else-code-lt112}
 use Prim.Native.Nat.{◌<◌}

@@ -1,7 +1,6 @@
 -- `use_stack` meets its contract.
 use mathlib.Core.Path.{ap}
 use Rattle.stack.specs.declared.StackAnswer.{StackAnswer}
-use borrow.Author.Rules.{rules}
 use Rattle.trace_session.proofs.use_stack.Goals as goal
 
 pub returns : goal.returns

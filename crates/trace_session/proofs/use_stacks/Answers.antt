@@ -1,7 +1,5 @@
 -- `use_stacks` meets its contract.
-use mathlib.Core.Path.{◌≡◌, sym, ◌∙◌}
-use borrow.Author.Rules.{rules}
-use borrow.Author.Tests.{not-true, not-false}
+use mathlib.Core.Path.{sym, ◌∙◌}
 use Rattle.trace_session.proofs.Stacks.{no_record, no_slot, put}
 use Rattle.trace_session.proofs.use_stacks.Goals as goal
 
