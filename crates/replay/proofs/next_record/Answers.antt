@@ -1,5 +1,4 @@
 -- `next_record` meets its contract.
-use borrow.Author.Rules.{rules}
 use borrow.Author.Tests.{not-true}
 use mathlib.Core.Path.{refl}
 use Rattle.replay.proofs.Replaying.{not_going, comes}

@@ -1,10 +1,6 @@
 -- `run` meets its contract: what is held is what the records so far leave. The areas keep their lengths, and the number of the record rises.
-use mathlib.Core.Path.{◌≡◌, refl, ◌∙◌}
-use Prim.Native.Nat.{◌-◌}
-use native.Mathlib.Omega.{arith}
-use lib.ListN.{length}
+use mathlib.Core.Path.{refl, ◌∙◌}
 use borrow.Author.Tests.{not-false}
-use Rattle.replay.specs.Replayed.{held, Replayed}
 use Rattle.replay.proofs.Replaying.{starts, follows}
 use Rattle.replay.proofs.run.Goals as goal
 

@@ -1,10 +1,7 @@
-use mathlib.Core.Path.{◌≡◌, refl, ◌∙◌}
+use mathlib.Core.Path.{◌≡◌}
 use Prim.Native.Nat.{◌-◌}
-use native.Mathlib.Omega.{arith}
 use lib.ListN.{length}
-use borrow.Author.Tests.{not-false}
 use Rattle.replay.specs.Replayed.{held, Replayed}
-use Rattle.replay.proofs.Replaying.{starts, follows}
 use Rattle.replay.proofs.run.Given as goal
 
 abbrev pub invariant-loop-record : goal.invariant-loop-record
