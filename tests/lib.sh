@@ -103,13 +103,13 @@ find_library() {
 }
 
 # find_built FILE WHAT COMMAND NAME: a file that is there and not older than its sources is taken as it is: nothing is locked, written or asked
-# of the kit. So is what `rt ci` or another command left in the folder of the crate NAME. Otherwise `rt COMMAND` there proves the crate and what it
-# builds on, and makes the file.
+# of the kit. So is a program that `rt ci` or another command left in the folder of the crate NAME. Otherwise `rt COMMAND` there proves the crate and
+# what it builds on, and makes the file.
 find_built() {
     local lacks= kits
     is_new "$1" && return
     kits=$(made_of "$4")
-    is_new "$kits" && take_made "$kits" "$1" "$kits" 2>/dev/null && return
+    [ "$3" = run ] && is_new "$kits" && take_made "$kits" "$1" "$kits" 2>/dev/null && return
     if ! command -v rt >/dev/null; then
         lacks="the Rattle kit's command rt is not on the path (README.md, What you need)"
     elif ! { mkdir -p "${1%/*}" && : >>"$root/target/prove.lock"; } 2>/dev/null; then
@@ -158,12 +158,14 @@ prove_shown() {
     return "${PIPESTATUS[0]}"
 }
 
-# What is made has the age of the work's begin: a source that is changed meanwhile is newer. `rt run` also runs the program, on no input.
+# What is made has the age of the work's begin: a source that is changed meanwhile is newer. `rt run` also runs the program, on no input. A program
+# of the kit asks for x86-64-v2, and says so where the processor lacks it; a library could not say it, so it is made for every x86-64.
 prove_alone() {
-    local status
+    local status words=()
+    [ "$2" != lib ] || words=(--cpu=x86-64)
     ! command -v flock >/dev/null || flock -n 9 || { echo "rt: another command proves it: waiting"; flock 9; }
     : >"$1.begin"
-    (cd "$root/crates/$3" && rt "$2") && take_made "$(made_of "$3")" "$1" "$1.begin"
+    (cd "$root/crates/$3" && rt "$2" "${words[@]}") && take_made "$(made_of "$3")" "$1" "$1.begin"
     status=$?
     rm -f "$1.begin"
     return "$status"
