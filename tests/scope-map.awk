@@ -53,13 +53,20 @@ kind == "specs" || kind == "proofs" {
 }
 
 kind == "src" {
-    if (/^impl /) impl = $2
+    # A method is TYPE::NAME; a conversion `impl TryFrom<u32> for TYPE` is TYPE::try_from, and `impl From<TYPE> for ..` is From<TYPE>::from.
+    if (/^impl/) {
+        impl = $0; promised = ""
+        sub(/^impl(<[^ ]*>)? /, "", impl)
+        if (impl ~ /^From</) sub(/ for .*/, "", impl); else { sub(/.* for /, "", impl); sub(/[< ].*/, "", impl) }
+    }
     if (/^}/) impl = ""
+    if (/^    ghost [a-z_]*gives = /) promised = promised words_of($0)
     if (match($0, /^(pub )?(struct|enum) [A-Za-z0-9]+/)) { n = split(substr($0, 1, RLENGTH), part, " "); owner = part[n]; type[crate "::" owner] = 1 }
     if (match($0, /^    [A-Z][A-Za-z]*[,(]/)) type[owner "::" substr($0, 5, RLENGTH - 5)] = 1
     if (match($0, /^ *(pub )?(extern "C" )?fn [a-z_0-9]+/)) {
         n = split(substr($0, 1, RLENGTH), part, " ")
         fn = (impl == "" ? crate : impl) "::" part[n]; home[fn] = crate; promise = 0
+        if (promised != "") { ensures[fn] = promised; promised = "" }
     }
     if (fn == "") next
     if (/^ *\{$/) { fn = ""; next }

@@ -6,7 +6,7 @@ use Rattle.fetch.specs.declared.ArrayPointer.{ArrayPointer}
 use Rattle.fetch.specs.Fetch.{fresh_array}
 use Rattle.arrays.specs.declared.Arrays.{Arrays}
 use Rattle.arrays.specs.declared.ArrayKind.{ArrayKind}
-use Rattle.arrays.specs.declared.ArraysAnswer.{ArraysAnswer}
+use Rattle.refusal.specs.Refusals.{Answer, answer}
 
 -- how many texture units there are
 abbrev pub unit_count : ℕ
@@ -80,17 +80,11 @@ accepted_arrays (client_unit unit) binding a = cond (ltb unit unit_count) (some 
 
 -- ---- the answers
 
-abbrev pub arrays_done : Arrays → ArraysAnswer
-arrays_done a = record { number = 0; arrays = a }
-
 -- a refusal changes nothing
-abbrev pub arrays_refused : Arrays → ArraysAnswer
-arrays_refused a = record { number = 0x0500; arrays = a }
-
-abbrev pub arrays_answered : Option Arrays → Arrays → ArraysAnswer
-arrays_answered (some b) a = arrays_done b
-arrays_answered none a = arrays_refused a
+abbrev pub arrays_answered : Option Arrays → Arrays → Answer Arrays
+arrays_answered (some b) a = answer 0 b
+arrays_answered none a = answer 0x0500 a
 
 -- a call's number, and the arrays after it
-unfoldable pub array_step : ArrayCall → ℕ → Arrays → ArraysAnswer
+unfoldable pub array_step : ArrayCall → ℕ → Arrays → Answer Arrays
 array_step call binding a = arrays_answered (accepted_arrays call binding a) a

@@ -4,7 +4,7 @@ use Rattle.number.specs.F32.{f0, f1}
 use Rattle.arrays.specs.Arrays.{unit_count}
 use Rattle.arrays.specs.declared.Pair.{Pair}
 use Rattle.arrays.specs.declared.Attributes.{Attributes}
-use Rattle.arrays.specs.declared.AttributesAnswer.{AttributesAnswer}
+use Rattle.refusal.specs.Refusals.{Answer, answer}
 
 abbrev pub no_pair : Pair
 no_pair = record { s = f0; t = f0 }
@@ -21,13 +21,10 @@ pub data AttributeCall : Type 0 where
 abbrev pub unit_of : ℕ → ℕ
 unit_of code = code - 0x84C0
 
-abbrev pub attributes_answered : ℕ → Attributes → AttributesAnswer
-attributes_answered n a = record { number = n; attributes = a }
-
 -- a call's number, and the values after it; a refusal, of a unit from 4 on, changes nothing
-unfoldable pub attribute_step : AttributeCall → Attributes → AttributesAnswer
-attribute_step (color value) a = attributes_answered 0 (record { color = value; pairs = a.pairs })
+unfoldable pub attribute_step : AttributeCall → Attributes → Answer Attributes
+attribute_step (color value) a = answer 0 (record { color = value; pairs = a.pairs })
 attribute_step (multi_texcoord unit s t) a =
     cond (ltb (unit_of unit) unit_count)
-    (attributes_answered 0 (record { color = a.color; pairs = set a.pairs (unit_of unit) (record { s = s; t = t }) }))
-    (attributes_answered 0x0500 a)
+    (answer 0 (record { color = a.color; pairs = set a.pairs (unit_of unit) (record { s = s; t = t }) }))
+    (answer 0x0500 a)

@@ -1,15 +1,16 @@
-// Client arrays and current values: the records, what they are at first, and one function for each kind of call on them.
+// Client arrays and current values: the records, what they are at first, and one method for each kind of call on them.
 #![tactic(auto)]
 
 ghost use Rattle.std.specs.Prelude.{◌≡◌, ℕ, get_or};
-ghost use Rattle.number.specs.Tables.{lookup};
+ghost use Rattle.refusal.specs.Refusals.{answer, answered};
+ghost use Rattle.refusal.specs.Enumerants.{Decodes};
 ghost use Rattle.fetch.specs.Fetch.{fresh_array};
-ghost use Rattle.arrays.specs.Arrays.{fresh_arrays, array_of, put_array, pointer_set, enabled_set, array_kinds, arrays_done, arrays_refused, arrays_answered, array_step};
-ghost use Rattle.arrays.specs.ArraysCode.{kind_of};
-ghost use Rattle.arrays.specs.Arrays.{vertex_pointer, color_pointer, normal_pointer, texcoord_pointer, client_state, client_unit};
+ghost use Rattle.arrays.specs.Arrays.{fresh_arrays, array_of, put_array, pointer_set, enabled_set, array_kinds, arrays_answered, array_step};
+ghost use Rattle.arrays.specs.Arrays.{client_state, client_unit};
 ghost use Rattle.arrays.specs.Attributes.{no_pair, fresh_attributes, unit_of, attribute_step, AttributeCall};
 
 use fetch::ArrayPointer;
+use refusal::{Refusal, UnknownEnum};
 
 // How many texture units there are.
 pub const UNIT_COUNT: usize = 4;
@@ -25,8 +26,6 @@ pub const TEXTURE_COORD_ARRAY: u32 = 0x8078;
 
 pub const TEXTURE0: u32 = 0x84C0;
 
-pub const INVALID_ENUM: u32 = 0x0500;
-
 // The seven arrays, and the client unit: the unit whose array a texture coordinate call is on.
 #[repr(C)]
 #[derive(Clone, Copy)]
@@ -39,7 +38,7 @@ pub struct Arrays {
 }
 
 // The array that a call is on; of the texture coordinates the client unit's.
-#[derive(Clone, Copy)]
+#[derive(Clone, Copy, Debug, PartialEq, Eq)]
 pub enum ArrayKind {
     Vertex,
     Color,
@@ -47,227 +46,123 @@ pub enum ArrayKind {
     TexCoord,
 }
 
-// What a call answers: 0 for done or 0x0500 for refused, and the arrays after it.
-#[derive(Clone, Copy)]
-pub struct ArraysAnswer {
-    pub number: u32,
-    pub arrays: Arrays,
-}
+impl TryFrom<u32> for ArrayKind {
+    type Error = UnknownEnum;
 
-pub fn fresh_arrays() -> Arrays
-    ensures { result ≡ fresh_arrays }
-{
-    let a = fetch::fresh_array();
-    Arrays {
-        vertex: a,
-        color: a,
-        normal: a,
-        texcoord: [a; UNIT_COUNT],
-        client_active_texture: 0,
-    }
-}
+    ghost try_from_gives = { λ code r. Decodes array_kinds code r };
 
-// The two answers of a call.
-fn accept(a: Arrays) -> ArraysAnswer
-    ensures { result ≡ arrays_done a }
-{
-    ArraysAnswer {
-        number: 0,
-        arrays: a,
-    }
-}
-
-fn refuse(a: Arrays) -> ArraysAnswer
-    ensures { result ≡ arrays_refused a }
-{
-    ArraysAnswer {
-        number: INVALID_ENUM,
-        arrays: a,
-    }
-}
-
-// The array of a unit.
-pub fn unit_array(a: Arrays, unit: usize) -> ArrayPointer
-    ensures { result ≡ get_or a.texcoord unit fresh_array }
-{
-    if unit < UNIT_COUNT {
-        return a.texcoord[unit];
-    }
-    fetch::fresh_array()
-}
-
-fn array_of(a: Arrays, kind: ArrayKind) -> ArrayPointer
-    ensures { result ≡ array_of kind a }
-{
-    match kind {
-        ArrayKind::Vertex => a.vertex,
-        ArrayKind::Color => a.color,
-        ArrayKind::Normal => a.normal,
-        ArrayKind::TexCoord => unit_array(a, a.client_active_texture as usize),
-    }
-}
-
-// The client unit's array replaced.
-fn put_client_array(a: Arrays, array: ArrayPointer) -> ArraysAnswer
-    ensures { result ≡ arrays_answered (put_array ArrayKind.TexCoord array a) a }
-{
-    let i = a.client_active_texture as usize;
-    if i < UNIT_COUNT {
-        let mut out = a;
-        out.texcoord[i] = array;
-        return accept(out);
-    }
-    refuse(a)
-}
-
-fn put_array(a: Arrays, kind: ArrayKind, array: ArrayPointer) -> ArraysAnswer
-    ensures { result ≡ arrays_answered (put_array kind array a) a }
-{
-    let mut out = a;
-    match kind {
-        ArrayKind::Vertex => {
-            out.vertex = array;
-            accept(out)
+    fn try_from(code: u32) -> Result<Self, UnknownEnum> {
+        match code {
+            VERTEX_ARRAY => Ok(ArrayKind::Vertex),
+            NORMAL_ARRAY => Ok(ArrayKind::Normal),
+            COLOR_ARRAY => Ok(ArrayKind::Color),
+            TEXTURE_COORD_ARRAY => Ok(ArrayKind::TexCoord),
+            _ => Err(UnknownEnum),
         }
-        ArrayKind::Color => {
-            out.color = array;
-            accept(out)
+    }
+}
+
+impl Arrays {
+    pub fn new() -> Arrays
+        ensures { result ≡ fresh_arrays }
+    {
+        let a = ArrayPointer::new();
+        Arrays {
+            vertex: a,
+            color: a,
+            normal: a,
+            texcoord: [a; UNIT_COUNT],
+            client_active_texture: 0,
         }
-        ArrayKind::Normal => {
-            out.normal = array;
-            accept(out)
+    }
+
+    // The array of a unit.
+    pub fn unit_array(&self, unit: usize) -> ArrayPointer
+        ensures { result ≡ get_or self.now.texcoord unit fresh_array }
+    {
+        self.texcoord
+            .get(unit)
+            .copied()
+            .unwrap_or(ArrayPointer::new())
+    }
+
+    fn array_of(&self, kind: ArrayKind) -> ArrayPointer
+        ensures { result ≡ array_of kind self.now }
+    {
+        match kind {
+            ArrayKind::Vertex => self.vertex,
+            ArrayKind::Color => self.color,
+            ArrayKind::Normal => self.normal,
+            ArrayKind::TexCoord => self.unit_array(self.client_active_texture as usize),
         }
-        ArrayKind::TexCoord => put_client_array(a, array),
     }
-}
 
-// An array set by a pointer call while `binding` is the array binding. Whether it is enabled stays.
-fn set_pointer(
-    a: Arrays,
-    binding: u32,
-    kind: ArrayKind,
-    size: u32,
-    ty: u32,
-    stride: u32,
-    pointer: u32,
-) -> ArraysAnswer
-    ensures { result ≡ arrays_answered (pointer_set kind size ty stride pointer binding a) a }
-{
-    let old = array_of(a, kind);
-    let array = ArrayPointer {
-        enabled: old.enabled,
-        size,
-        ty,
-        stride,
-        pointer,
-        buffer: binding,
-    };
-    put_array(a, kind, array)
-}
-
-pub fn set_vertex_pointer(
-    a: Arrays,
-    binding: u32,
-    size: u32,
-    ty: u32,
-    stride: u32,
-    pointer: u32,
-) -> ArraysAnswer
-    ensures { result ≡ array_step (vertex_pointer size ty stride pointer) binding a }
-{
-    let kind = ArrayKind::Vertex;
-    set_pointer(a, binding, kind, size, ty, stride, pointer)
-}
-
-pub fn set_color_pointer(
-    a: Arrays,
-    binding: u32,
-    size: u32,
-    ty: u32,
-    stride: u32,
-    pointer: u32,
-) -> ArraysAnswer
-    ensures { result ≡ array_step (color_pointer size ty stride pointer) binding a }
-{
-    let kind = ArrayKind::Color;
-    set_pointer(a, binding, kind, size, ty, stride, pointer)
-}
-
-// Normals have three components.
-pub fn set_normal_pointer(
-    a: Arrays,
-    binding: u32,
-    ty: u32,
-    stride: u32,
-    pointer: u32,
-) -> ArraysAnswer
-    ensures { result ≡ array_step (normal_pointer ty stride pointer) binding a }
-{
-    let kind = ArrayKind::Normal;
-    set_pointer(a, binding, kind, 3, ty, stride, pointer)
-}
-
-pub fn set_texcoord_pointer(
-    a: Arrays,
-    binding: u32,
-    size: u32,
-    ty: u32,
-    stride: u32,
-    pointer: u32,
-) -> ArraysAnswer
-    ensures { result ≡ array_step (texcoord_pointer size ty stride pointer) binding a }
-{
-    let kind = ArrayKind::TexCoord;
-    set_pointer(a, binding, kind, size, ty, stride, pointer)
-}
-
-// An array switched on or off; its other fields stay.
-fn set_enabled(a: Arrays, kind: ArrayKind, on: bool) -> ArraysAnswer
-    ensures { result ≡ arrays_answered (enabled_set kind on a) a }
-{
-    let mut array = array_of(a, kind);
-    array.enabled = on;
-    put_array(a, kind, array)
-}
-
-// The array that a number stands for, or none.
-#[derive(Clone, Copy)]
-pub enum ArrayChoice {
-    Known(ArrayKind),
-    Unknown,
-}
-
-fn array_kind(code: u32) -> ArrayChoice
-    ensures { kind_of result ≡ lookup array_kinds code }
-{
-    match code {
-        VERTEX_ARRAY => ArrayChoice::Known(ArrayKind::Vertex),
-        NORMAL_ARRAY => ArrayChoice::Known(ArrayKind::Normal),
-        COLOR_ARRAY => ArrayChoice::Known(ArrayKind::Color),
-        TEXTURE_COORD_ARRAY => ArrayChoice::Known(ArrayKind::TexCoord),
-        _ => ArrayChoice::Unknown,
+    fn put_array(&mut self, kind: ArrayKind, array: ArrayPointer) -> Result<(), Refusal>
+        ensures { answered result self.new ≡ arrays_answered (put_array kind array self.old) self.old }
+    {
+        match kind {
+            ArrayKind::Vertex => self.vertex = array,
+            ArrayKind::Color => self.color = array,
+            ArrayKind::Normal => self.normal = array,
+            ArrayKind::TexCoord => {
+                let unit = self.client_active_texture as usize;
+                if unit >= UNIT_COUNT {
+                    return Err(Refusal::InvalidEnum);
+                }
+                self.texcoord[unit] = array;
+            }
+        }
+        Ok(())
     }
-}
 
-pub fn set_client_state(a: Arrays, array: u32, on: bool) -> ArraysAnswer
-    ensures { (binding : ℕ) → result ≡ array_step (client_state array on) binding a }
-{
-    let found = array_kind(array);
-    match found {
-        ArrayChoice::Known(kind) => set_enabled(a, kind, on),
-        ArrayChoice::Unknown => refuse(a),
+    // An array set by a pointer call while `binding` is the array binding. Whether it is enabled stays.
+    pub fn set_pointer(
+        &mut self,
+        kind: ArrayKind,
+        binding: u32,
+        size: u32,
+        ty: u32,
+        stride: u32,
+        pointer: u32,
+    ) -> Result<(), Refusal>
+        ensures { answered result self.new ≡ arrays_answered (pointer_set kind size ty stride pointer binding self.old) self.old }
+    {
+        let array = ArrayPointer {
+            size,
+            ty,
+            stride,
+            pointer,
+            buffer: binding,
+            ..self.array_of(kind)
+        };
+        self.put_array(kind, array)
     }
-}
 
-pub fn set_client_active_texture(a: Arrays, unit: u32) -> ArraysAnswer
-    ensures { (binding : ℕ) → result ≡ array_step (client_unit unit) binding a }
-{
-    if (unit as usize) < UNIT_COUNT {
-        let mut out = a;
-        out.client_active_texture = unit;
-        return accept(out);
+    // An array switched on or off; its other fields stay.
+    fn set_enabled(&mut self, kind: ArrayKind, on: bool) -> Result<(), Refusal>
+        ensures { answered result self.new ≡ arrays_answered (enabled_set kind on self.old) self.old }
+    {
+        let mut array = self.array_of(kind);
+        array.enabled = on;
+        self.put_array(kind, array)
     }
-    refuse(a)
+
+    pub fn set_client_state(&mut self, array: u32, on: bool) -> Result<(), Refusal>
+        ensures { (binding : ℕ) → answered result self.new ≡ array_step (client_state array on) binding self.old }
+    {
+        self.set_enabled(ArrayKind::try_from(array)?, on)
+    }
+
+    #[tactic(auto, unfolding(crate::specs::Arrays::array_step, crate::specs::Arrays::accepted_arrays))]
+    pub fn set_client_active_texture(&mut self, unit: u32) -> Result<(), Refusal>
+        ensures { (binding : ℕ) → answered result self.new ≡ array_step (client_unit unit) binding self.old }
+    {
+        if unit as usize >= UNIT_COUNT {
+            return Err(Refusal::InvalidEnum);
+        }
+        self.client_active_texture = unit;
+        Ok(())
+    }
 }
 
 // Texture coordinates s and t.
@@ -278,6 +173,8 @@ pub struct Pair {
     pub t: f32,
 }
 
+const NO_PAIR: Pair = Pair { s: 0.0, t: 0.0 };
+
 // What a vertex has where an array is disabled: the current colour, and a pair for each unit.
 #[repr(C)]
 #[derive(Clone, Copy)]
@@ -286,69 +183,45 @@ pub struct Attributes {
     pub pairs: [Pair; UNIT_COUNT],
 }
 
-// What a call answers: 0 for done or 0x0500 for refused, and the attributes after it.
-#[derive(Clone, Copy)]
-pub struct AttributesAnswer {
-    pub number: u32,
-    pub attributes: Attributes,
-}
-
-pub fn fresh_attributes() -> Attributes
-    ensures { result ≡ fresh_attributes }
-{
-    let pair = Pair { s: 0.0, t: 0.0 };
-    Attributes {
-        color: [1.0, 1.0, 1.0, 1.0],
-        pairs: [pair; UNIT_COUNT],
-    }
-}
-
-// The current pair of a unit.
-pub fn unit_pair(a: Attributes, unit: usize) -> Pair
-    ensures { result ≡ get_or a.pairs unit no_pair }
-{
-    if unit < UNIT_COUNT {
-        return a.pairs[unit];
-    }
-    Pair { s: 0.0, t: 0.0 }
-}
-
-pub fn set_color(a: Attributes, color: [f32; 4]) -> AttributesAnswer
-    ensures { result ≡ attribute_step (AttributeCall.color color) a }
-{
-    let mut out = a;
-    out.color = color;
-    AttributesAnswer {
-        number: 0,
-        attributes: out,
-    }
-}
-
 // The unit that a code stands for: TEXTURE0 plus the unit, and a code below that is unit 0.
 fn unit_of(code: u32) -> u32
     ensures { result ≡ unit_of code }
 {
-    if code < TEXTURE0 {
-        return 0;
-    }
-    code - TEXTURE0
+    code.saturating_sub(TEXTURE0)
 }
 
-pub fn set_multi_texcoord(a: Attributes, unit: u32, s: f32, t: f32) -> AttributesAnswer
-    ensures { result ≡ attribute_step (AttributeCall.multi_texcoord unit s t) a }
-{
-    let i = unit_of(unit) as usize;
-    if i < UNIT_COUNT {
-        let pair = Pair { s, t };
-        let mut out = a;
-        out.pairs[i] = pair;
-        return AttributesAnswer {
-            number: 0,
-            attributes: out,
-        };
+#[tactic(auto, unfolding(crate::specs::Attributes::attribute_step))]
+impl Attributes {
+    pub fn new() -> Attributes
+        ensures { result ≡ fresh_attributes }
+    {
+        Attributes {
+            color: [1.0, 1.0, 1.0, 1.0],
+            pairs: [NO_PAIR; UNIT_COUNT],
+        }
     }
-    AttributesAnswer {
-        number: INVALID_ENUM,
-        attributes: a,
+
+    // The current pair of a unit.
+    pub fn unit_pair(&self, unit: usize) -> Pair
+        ensures { result ≡ get_or self.now.pairs unit no_pair }
+    {
+        self.pairs.get(unit).copied().unwrap_or(NO_PAIR)
+    }
+
+    pub fn set_color(&mut self, color: [f32; 4])
+        ensures { answer 0 self.new ≡ attribute_step (AttributeCall.color color) self.old }
+    {
+        self.color = color;
+    }
+
+    pub fn set_multi_texcoord(&mut self, unit: u32, s: f32, t: f32) -> Result<(), Refusal>
+        ensures { answered result self.new ≡ attribute_step (AttributeCall.multi_texcoord unit s t) self.old }
+    {
+        let i = unit_of(unit) as usize;
+        if i >= UNIT_COUNT {
+            return Err(Refusal::InvalidEnum);
+        }
+        self.pairs[i] = Pair { s, t };
+        Ok(())
     }
 }

@@ -8,15 +8,14 @@ use native.Mathlib.Omega.{arith}
 use borrow.Author.Tests.{lt-ltb, ltb-true, ltb-false}
 use lib.Dec.{eqb, ltb}
 use Rattle.fetch.specs.Decode.{component_bytes}
-use Rattle.fetch.specs.Fetch.{Part, Address, no_buffer, unreadable, last_address, element_bytes, stride_of, address_of, part_of, decoded, fetched_at, fetched}
+use Rattle.fetch.specs.Fetch.{Fetched, Part, Address, no_buffer, unreadable, last_address, element_bytes, stride_of, address_of, part_of, decoded, fetched_at, fetched}
 use Rattle.fetch.specs.FetchCode.{part_source}
 use Rattle.fetch.specs.declared.ArrayPointer.{ArrayPointer}
 use Rattle.fetch.specs.declared.Extent.{Extent}
-use Rattle.fetch.specs.declared.Fetched.{Fetched}
+use Rattle.fetch.specs.declared.FetchFailure.{FetchFailure}
 use Rattle.assembly.specs.ElementsCode.{missing_at, location_at, location_of, Locates, Prepares}
-use Rattle.assembly.specs.declared.Failure.{Failure}
-use Rattle.assembly.specs.declared.Location.{Location}
 use Rattle.assembly.specs.declared.Prepared.{Prepared}
+use Rattle.std.specs.Prelude.{Result, Some, None, Ok, Err}
 use Rattle.fetch.proofs.Extents.{Covers}
 use Rattle.assembly.proofs.Addresses.{no_type, long, far, past, there}
 
@@ -36,35 +35,34 @@ module _ (contents : ℕ → Option (List ℕ)) (base : ℕ) (store guest : List
   from_address index x e n = ap (fetched_at contents base guest a n) e
 
   -- an array without an element: `low` above `last`
-  abbrev without : Failure → ℕ → Prepared
-  without failure stride = record { array = a; failure = failure; len = 0; stride = stride; low = 1; last = 0; origin = 0 }
+  abbrev without : FetchFailure → ℕ → Prepared
+  without failure stride = record { array = a; failure = Some failure; len = 0; stride = stride; low = 1; last = 0; origin = 0 }
 
-  never_at : (failure : Failure) (A : ℕ)
-      → cond (ltb A 1) (missing_at failure A) (cond (ltb 0 A) (missing_at failure A) (Location.At (0 + (A - 1)))) ≡ missing_at failure A
-  never_at failure A = go (ltb A 1) refl
+  never_at : (cause : FetchFailure) (A : ℕ) → ◌≡◌ {A = Result ℕ FetchFailure} (cond (ltb A 1) (Err cause) (cond (ltb 0 A) (Err cause) (Ok (0 + (A - 1))))) (Err cause)
+  never_at cause A = go (ltb A 1) refl
     where
-      go : (b : Bool) → ltb A 1 ≡ b → cond b (missing_at failure A) (cond (ltb 0 A) (missing_at failure A) (Location.At (0 + (A - 1)))) ≡ missing_at failure A
+      go : (b : Bool) → ltb A 1 ≡ b → ◌≡◌ {A = Result ℕ FetchFailure} (cond b (Err cause) (cond (ltb 0 A) (Err cause) (Ok (0 + (A - 1))))) (Err cause)
       go true e = refl
       go false e = rw (lt-ltb 0 A (omega (arith, ltb-false A 1 e)))
 
-  never : (failure : Failure) (stride index : ℕ) → location_of (without failure stride) index ≡ missing_at failure (a.pointer + stride * index)
+  never : (failure : FetchFailure) (stride index : ℕ) → location_of (without failure stride) index ≡ Err (missing_at (Some failure) (a.pointer + stride * index))
   unfolding location_of
-  never failure stride index = never_at failure (a.pointer + stride * index)
+  never failure stride index = never_at (missing_at (Some failure) (a.pointer + stride * index)) (a.pointer + stride * index)
 
   module _ (width : ℕ) (w : width ≡ component_bytes a.ty) where
-    pub of_no_type : width ≡ 0 → (stride : ℕ) → Prepares contents base store guest a (without Failure.UnknownType stride)
+    pub of_no_type : width ≡ 0 → (stride : ℕ) → Prepares contents base store guest a (without FetchFailure.UnknownType stride)
     of_no_type z stride =
         record {
           array = refl;
-          element = λ index. rw (never Failure.UnknownType stride index) (from_address index _ (no_type a index width w z));
+          element = λ index. rw (never FetchFailure.UnknownType stride index) (from_address index _ (no_type a index width w z));
         }
 
     module _ (z : width ≡ 0 → ⊥) where
-      pub of_long : last_address < width * a.size → (stride : ℕ) → Prepares contents base store guest a (without Failure.Overflow stride)
+      pub of_long : last_address < width * a.size → (stride : ℕ) → Prepares contents base store guest a (without FetchFailure.Overflow stride)
       of_long h stride =
           record {
             array = refl;
-            element = λ index. rw (never Failure.Overflow stride index) (from_address index _ (long a index width w z h));
+            element = λ index. rw (never FetchFailure.Overflow stride index) (from_address index _ (long a index width w z h));
           }
 
       module _ (len : ℕ) (l : len ≡ width * a.size) (h : len ≤ last_address) where
@@ -81,10 +79,10 @@ module _ (contents : ℕ → Option (List ℕ)) (base : ℕ) (store guest : List
           abbrev A : ℕ
           A = a.pointer + step * index
 
-          overflows : last_address < A → (n : Bool) → fetches index n ≡ Fetched.Overflow
+          overflows : last_address < A → (n : Bool) → fetches index n ≡ Err FetchFailure.Overflow
           overflows q = go (ltb last_address (step * index)) refl
             where
-              go : (b : Bool) → ltb last_address (step * index) ≡ b → (n : Bool) → fetches index n ≡ Fetched.Overflow
+              go : (b : Bool) → ltb last_address (step * index) ≡ b → (n : Bool) → fetches index n ≡ Err FetchFailure.Overflow
               go true e = from_address index _ (far a index width w z (rw l at h) step step_is (ltb-true _ _ e))
               go false e = from_address index _ (past a index width w z (rw l at h) step step_is (ltb-false _ _ e) q)
 
@@ -94,71 +92,68 @@ module _ (contents : ℕ → Option (List ℕ)) (base : ℕ) (store guest : List
               ∙ ap (λ (k : ℕ). decoded a n (part A k)) (sym l)
 
           -- past the last address, or not
-          missing_is : (other : Location) (size : ℕ) → (A ≤ last_address → Locates (fetches index) a source size other)
-              → Locates (fetches index) a source size (cond (ltb last_address A) Location.Overflow other)
-          missing_is other size f = go (ltb last_address A) refl
+          missing_is : (other : FetchFailure) → (A ≤ last_address → (n : Bool) → fetches index n ≡ Err other)
+              → (n : Bool) → fetches index n ≡ Err (cond (ltb last_address A) FetchFailure.Overflow other)
+          missing_is other f = go (ltb last_address A) refl
             where
-              go : (b : Bool) → ltb last_address A ≡ b → Locates (fetches index) a source size (cond b Location.Overflow other)
+              go : (b : Bool) → ltb last_address A ≡ b → (n : Bool) → fetches index n ≡ Err (cond b FetchFailure.Overflow other)
               go true e = overflows (ltb-true _ _ e)
               go false e = f (ltb-false _ _ e)
 
-          no_part : part A len ≡ no_buffer → A ≤ last_address → (n : Bool) → fetches index n ≡ Fetched.NoBuffer
+          no_part : part A len ≡ no_buffer → A ≤ last_address → (n : Bool) → fetches index n ≡ Err FetchFailure.NoBuffer
           no_part e q n = reaches q n ∙ ap (decoded a n) e
 
-          bad_part : part A len ≡ unreadable → A ≤ last_address → (n : Bool) → fetches index n ≡ Fetched.Unreadable
+          bad_part : part A len ≡ unreadable → A ≤ last_address → (n : Bool) → fetches index n ≡ Err FetchFailure.Unreadable
           bad_part e q n = reaches q n ∙ ap (decoded a n) e
 
+        pub of_absent : ((A L : ℕ) → part A L ≡ no_buffer) → Prepares contents base store guest a (without FetchFailure.NoBuffer step)
+        of_absent u =
+            record {
+              array = refl;
+              element = λ index. rw (never FetchFailure.NoBuffer step index) (missing_is index FetchFailure.NoBuffer (no_part index (u (A index) len)));
+            }
+
         module _ (x : Extent) (c : Covers part source x) where
-          pub of_absent : x.known ≡ false → Prepares contents base store guest a (without Failure.NoBuffer step)
-          of_absent u =
+          -- below the extent, or beyond it
+          outside : (index : ℕ) → (x.low ≤ A index → x.room < A index - x.low + len) → part (A index) len ≡ unreadable
+          outside index f = go (ltb (A index) x.low) refl
+            where
+              go : (b : Bool) → ltb (A index) x.low ≡ b → part (A index) len ≡ unreadable
+              go true e = c.under (A index) len (ltb-true _ _ e)
+              go false e = c.short (A index) len (ltb-false _ _ e) (f (ltb-false _ _ e))
+
+          pub of_short : x.room < len → Prepares contents base store guest a (without FetchFailure.Unreadable step)
+          of_short r =
               record {
                 array = refl;
                 element = λ index.
-                    rw (never Failure.NoBuffer step index)
-                    (missing_is index Location.NoBuffer 0 (no_part index (c.absent u (A index) len)));
+                    rw (never FetchFailure.Unreadable step index)
+                    (missing_is index FetchFailure.Unreadable (bad_part index (outside index (λ _. omega arith))));
               }
 
-          module _ (u : x.known ≡ true) where
-            -- below the extent, or beyond it
-            outside : (index : ℕ) → (x.low ≤ A index → x.room < A index - x.low + len) → part (A index) len ≡ unreadable
-            outside index f = go (ltb (A index) x.low) refl
+          module _ (r : len ≤ x.room) (last : ℕ) (m : last ≡ min (x.low + (x.room - len)) last_address) where
+            abbrev whole : Prepared
+            whole = record { array = a; failure = None; len = len; stride = step; low = x.low; last = last; origin = x.origin }
+
+            found : (index : ℕ) → Locates (fetches index) a source len (location_at whole (A index))
+            found index = go (ltb (A index) x.low) refl (ltb last (A index)) refl
               where
-                go : (b : Bool) → ltb (A index) x.low ≡ b → part (A index) len ≡ unreadable
-                go true e = c.under u (A index) len (ltb-true _ _ e)
-                go false e = c.short u (A index) len (ltb-false _ _ e) (f (ltb-false _ _ e))
+                go : (b : Bool) → ltb (A index) x.low ≡ b → (t : Bool) → ltb last (A index) ≡ t
+                    → Locates (fetches index) a source len (cond b (Err (missing_at None (A index)))
+                    (cond t (Err (missing_at None (A index))) (Ok (x.origin + (A index - x.low)))))
+                go true e t f = missing_is index FetchFailure.Unreadable (bad_part index (c.under (A index) len (ltb-true _ _ e)))
+                go false e true f =
+                    missing_is index FetchFailure.Unreadable
+                    (λ q. bad_part index (c.short (A index) len (ltb-false _ _ e) (omega (arith, q, m, r, ltb-true last (A index) f, ltb-false (A index) x.low e))) q)
+                go false e false f =
+                    let near : A index - x.low + len ≤ x.room = omega (arith, m, r, ltb-false last (A index) f, ltb-false (A index) x.low e) in
+                    let reach : A index ≤ last_address = omega (arith, m, ltb-false last (A index) f) in (
+                      omega (arith, c.within, near),
+                      element_length,
+                      omega (arith, w, z),
+                      λ n. reaches index reach n ∙ ap (decoded a n) (c.there (A index) len (ltb-false _ _ e) near),
+                    )
 
-            pub of_short : x.room < len → Prepares contents base store guest a (without Failure.Unreadable step)
-            of_short r =
-                record {
-                  array = refl;
-                  element = λ index.
-                      rw (never Failure.Unreadable step index)
-                      (missing_is index Location.Unreadable 0 (bad_part index (outside index (λ _. omega arith))));
-                }
-
-            module _ (r : len ≤ x.room) (last : ℕ) (m : last ≡ min (x.low + (x.room - len)) last_address) where
-              abbrev whole : Prepared
-              whole = record { array = a; failure = Failure.None; len = len; stride = step; low = x.low; last = last; origin = x.origin }
-
-              found : (index : ℕ) → Locates (fetches index) a source len (location_at whole (A index))
-              found index = go (ltb (A index) x.low) refl (ltb last (A index)) refl
-                where
-                  go : (b : Bool) → ltb (A index) x.low ≡ b → (t : Bool) → ltb last (A index) ≡ t
-                      → Locates (fetches index) a source len (cond b (missing_at Failure.None (A index))
-                      (cond t (missing_at Failure.None (A index)) (Location.At (x.origin + (A index - x.low)))))
-                  go true e t f = missing_is index Location.Unreadable len (bad_part index (c.under u (A index) len (ltb-true _ _ e)))
-                  go false e true f =
-                      missing_is index Location.Unreadable len
-                      (λ q. bad_part index (c.short u (A index) len (ltb-false _ _ e) (omega (arith, q, m, r, ltb-true last (A index) f, ltb-false (A index) x.low e))) q)
-                  go false e false f =
-                      let near : A index - x.low + len ≤ x.room = omega (arith, m, r, ltb-false last (A index) f, ltb-false (A index) x.low e) in
-                      let reach : A index ≤ last_address = omega (arith, m, ltb-false last (A index) f) in (
-                        omega (arith, c.within, near),
-                        element_length,
-                        omega (arith, w, z),
-                        λ n. reaches index reach n ∙ ap (decoded a n) (c.there u (A index) len (ltb-false _ _ e) near),
-                      )
-
-              pub of_whole : Prepares contents base store guest a whole
-              unfolding location_of
-              of_whole = record { array = refl; element = found }
+            pub of_whole : Prepares contents base store guest a whole
+            unfolding location_of
+            of_whole = record { array = refl; element = found }

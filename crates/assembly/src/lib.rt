@@ -3,38 +3,37 @@
 
 ghost use Rattle.std.specs.Prelude.{◌≡◌, Bool, true, false, List, ℕ, ◌+◌, ◌-◌, ◌*◌, ◌/◌, ◌^◌, ◌<◌, ◌≤◌, min, length, get_or, take, drop};
 ghost use Rattle.std.proofs.lemmas.List.Edits.{sets};
-ghost use Rattle.number.specs.Numbers.{little_endian, signed_at};
+ghost use Rattle.number.specs.Numbers.{little_endian};
 ghost use Rattle.buffers.specs.Bounded.{first};
 ghost use Rattle.buffers.specs.Objects.{contents_of};
 ghost use Rattle.corners.specs.Places.{corner_place};
 ghost use Rattle.fetch.specs.Decode.{component_bytes, unsigned_component, signed_component, component_of, component, vector_of};
-ghost use Rattle.fetch.specs.Fetch.{last_address, element_bytes, stride_of, position_number};
+ghost use Rattle.fetch.specs.Fetch.{last_address, element_bytes, stride_of};
 ghost use Rattle.fetch.specs.FetchCode.{part_source};
 ghost use Rattle.vertex.specs.SceneCode.{scene_in, index_list};
 ghost use Rattle.vertex.specs.Vertex.{element_of, object_position, color_of, components_or, origin, has_stage, pair_from, transformed_pair};
 ghost use Rattle.vertex.specs.Vertex.{unit_array, pair_of, pair_words, texcoords_of, vertex_of, four, vertex_words};
-ghost use Rattle.vertex.specs.Questions.{position_at, fails, has_vertices, list_number};
-ghost use Rattle.assembly.specs.ElementsCode.{OneTwoFour, missing_at, location_of, Locates, Prepares, PreparesFor, Plans};
+ghost use Rattle.vertex.specs.Questions.{fails, has_vertices, list_number};
+ghost use Rattle.refusal.specs.Refusals.{number_in};
+ghost use Rattle.assembly.specs.ElementsCode.{OneTwoFour, missing_at, location_of, Prepares, PreparesFor, Plans};
 ghost use Rattle.assembly.specs.Triangles.{vertex_at, triangles_to, words_of};
 ghost use Rattle.assembly.specs.CornersCode.{corner_words};
 
 use arrays::Pair;
-use buffers::Buffers;
 use corners::Primitive;
-use fetch::{ArrayPointer, Fetched, Vec4};
-use vertex::{DrawInputs, Indices, Vertex};
+use fetch::{ArrayPointer, FetchFailure, Fetched, Memory, Vec4};
+use refusal::Refusal;
+use vertex::{DrawInputs, IndexList, Vertex};
 
-// Bytes of a component, 0 for an unknown type.
+// Bytes of a component, 0 for an unknown type. A type stays a number: a const parameter takes no enum.
+#[tactic(auto, unfolding(fetch::specs::Decode::component_bytes))]
 fn component_bytes(ty: u32) -> u32
     ensures { result ≡ component_bytes ty }
 {
     match ty {
-        0x1400 => 1,
-        0x1401 => 1,
-        0x1402 => 2,
-        0x1403 => 2,
-        0x1406 => 4,
-        0x140C => 4,
+        0x1400 | 0x1401 => 1,
+        0x1402 | 0x1403 => 2,
+        0x1406 | 0x140C => 4,
         _ => 0,
     }
 }
@@ -44,42 +43,30 @@ fn number_at(s: &[u8], at: usize, width: u32) -> u32
     requires { (at + width ≤ length s.now) × OneTwoFour width }
     ensures { (result ≡ little_endian (take width (drop at s.now))) × (result < 256 ^ width) }
 {
-    if width == 1 {
-        return s[at] as u32;
+    match width {
+        1 => u32::from(s[at]),
+        2 => u32::from(number::le16(s[at], s[at + 1])),
+        _ => number::le32(s[at], s[at + 1], s[at + 2], s[at + 3]),
     }
-    if width == 2 {
-        return number::le16(s[at], s[at + 1]) as u32;
-    }
-    number::le32(s[at], s[at + 1], s[at + 2], s[at + 3])
 }
 
 fn signed_component(v: i16, max: u16, normalize: bool) -> f32
     ensures { result ≡ signed_component normalize max v }
 {
     if normalize {
-        return number::snorm_to_f32(v, max);
+        number::snorm_to_f32(v, max)
+    } else {
+        number::i16_to_f32(v)
     }
-    number::i16_to_f32(v)
 }
 
 fn unsigned_component(n: u16, max: u16, normalize: bool) -> f32
     ensures { result ≡ unsigned_component normalize max n }
 {
     if normalize {
-        return number::unorm_to_f32(n, max);
-    }
-    number::u16_to_f32(n)
-}
-
-// Two's complement: of the numbers below 2 * half those from half on stand for the negative ones.
-fn signed16(n: u16, half: u16) -> i16
-    requires { (half ≤ 0x8000) × (n < 2 * half) }
-    ensures { result ≡ signed_at half n }
-{
-    if n < half {
-        n as i16
+        number::unorm_to_f32(n, max)
     } else {
-        -1 - ((half - 1 - (n - half)) as i16)
+        number::u16_to_f32(n)
     }
 }
 
@@ -88,23 +75,14 @@ fn convert(ty: u32, normalize: bool, n: u32) -> f32
     requires { n < 256 ^ component_bytes ty }
     ensures { result ≡ component_of ty normalize n }
 {
-    if ty == 0x1406 {
-        return number::f32_of_bits(n);
+    match ty {
+        0x1406 => number::f32_of_bits(n),
+        0x140C => number::fixed_to_f32(number::signed32(n)),
+        0x1400 => signed_component(i16::from((n as u8).cast_signed()), 127, normalize),
+        0x1402 => signed_component((n as u16).cast_signed(), 32767, normalize),
+        0x1401 => unsigned_component(n as u16, 255, normalize),
+        _ => unsigned_component(n as u16, 65535, normalize),
     }
-    if ty == 0x140C {
-        return number::fixed_to_f32(number::signed32(n));
-    }
-    let low = n as u16;
-    if ty == 0x1400 {
-        return signed_component(signed16(low, 0x80), 127, normalize);
-    }
-    if ty == 0x1402 {
-        return signed_component(signed16(low, 0x8000), 32767, normalize);
-    }
-    if ty == 0x1401 {
-        return unsigned_component(low, 255, normalize);
-    }
-    unsigned_component(low, 65535, normalize)
 }
 
 // Component i of an element's bytes, or `other` where it is absent.
@@ -120,144 +98,51 @@ fn component_at(part: &[u8], ty: u32, size: u32, normalize: bool, i: u32, other:
     convert(ty, normalize, n)
 }
 
-// Decoders by type. The type is a constant in each call of component_at, so that the compiler inlines it: of each component only the size is tested.
-fn floats(part: &[u8], size: u32) -> Vec4
-    requires { length part.now ≡ component_bytes 0x1406 * size }
-    ensures { (normalize : Bool) → result ≡ vector_of 0x1406 size normalize part.now }
+// The four components of an element's bytes. The type is a constant in each call of component_at, so that the compiler inlines it: of each component only
+// the size is tested.
+fn components<const TY: u32>(part: &[u8], size: u32, normalize: bool) -> Vec4
+    requires { (length part.now ≡ component_bytes TY * size) × (0 < component_bytes TY) }
+    ensures { result ≡ vector_of TY size normalize part.now }
 {
-    let x = component_at(part, 0x1406, size, false, 0, 0.0);
-    let y = component_at(part, 0x1406, size, false, 1, 0.0);
-    let z = component_at(part, 0x1406, size, false, 2, 0.0);
-    let w = component_at(part, 0x1406, size, false, 3, 1.0);
+    let x = component_at(part, TY, size, normalize, 0, 0.0);
+    let y = component_at(part, TY, size, normalize, 1, 0.0);
+    let z = component_at(part, TY, size, normalize, 2, 0.0);
+    let w = component_at(part, TY, size, normalize, 3, 1.0);
     Vec4 { x, y, z, w }
 }
 
-fn fixeds(part: &[u8], size: u32) -> Vec4
-    requires { length part.now ≡ component_bytes 0x140C * size }
-    ensures { (normalize : Bool) → result ≡ vector_of 0x140C size normalize part.now }
-{
-    let x = component_at(part, 0x140C, size, false, 0, 0.0);
-    let y = component_at(part, 0x140C, size, false, 1, 0.0);
-    let z = component_at(part, 0x140C, size, false, 2, 0.0);
-    let w = component_at(part, 0x140C, size, false, 3, 1.0);
-    Vec4 { x, y, z, w }
-}
-
-fn shorts(part: &[u8], size: u32, normalize: bool) -> Vec4
-    requires { length part.now ≡ component_bytes 0x1402 * size }
-    ensures { result ≡ vector_of 0x1402 size normalize part.now }
-{
-    let x = component_at(part, 0x1402, size, normalize, 0, 0.0);
-    let y = component_at(part, 0x1402, size, normalize, 1, 0.0);
-    let z = component_at(part, 0x1402, size, normalize, 2, 0.0);
-    let w = component_at(part, 0x1402, size, normalize, 3, 1.0);
-    Vec4 { x, y, z, w }
-}
-
-fn unsigned_shorts(part: &[u8], size: u32, normalize: bool) -> Vec4
-    requires { length part.now ≡ component_bytes 0x1403 * size }
-    ensures { result ≡ vector_of 0x1403 size normalize part.now }
-{
-    let x = component_at(part, 0x1403, size, normalize, 0, 0.0);
-    let y = component_at(part, 0x1403, size, normalize, 1, 0.0);
-    let z = component_at(part, 0x1403, size, normalize, 2, 0.0);
-    let w = component_at(part, 0x1403, size, normalize, 3, 1.0);
-    Vec4 { x, y, z, w }
-}
-
-fn signed_bytes(part: &[u8], size: u32, normalize: bool) -> Vec4
-    requires { length part.now ≡ component_bytes 0x1400 * size }
-    ensures { result ≡ vector_of 0x1400 size normalize part.now }
-{
-    let x = component_at(part, 0x1400, size, normalize, 0, 0.0);
-    let y = component_at(part, 0x1400, size, normalize, 1, 0.0);
-    let z = component_at(part, 0x1400, size, normalize, 2, 0.0);
-    let w = component_at(part, 0x1400, size, normalize, 3, 1.0);
-    Vec4 { x, y, z, w }
-}
-
-fn unsigned_bytes(part: &[u8], size: u32, normalize: bool) -> Vec4
-    requires { length part.now ≡ component_bytes 0x1401 * size }
-    ensures { result ≡ vector_of 0x1401 size normalize part.now }
-{
-    let x = component_at(part, 0x1401, size, normalize, 0, 0.0);
-    let y = component_at(part, 0x1401, size, normalize, 1, 0.0);
-    let z = component_at(part, 0x1401, size, normalize, 2, 0.0);
-    let w = component_at(part, 0x1401, size, normalize, 3, 1.0);
-    Vec4 { x, y, z, w }
-}
-
-// The four components of an element's bytes. It hands its slice to no function that is not inlined: the slice would be copied through memory.
+// The same by type. It hands its slice to no function that is not inlined: the slice would be copied through memory.
 fn vector(part: &[u8], ty: u32, size: u32, normalize: bool) -> Vec4
     requires { (length part.now ≡ component_bytes ty * size) × (0 < component_bytes ty) }
     ensures { result ≡ vector_of ty size normalize part.now }
 {
-    if ty == 0x1406 {
-        return floats(part, size);
+    match ty {
+        0x1406 => components::<0x1406>(part, size, normalize),
+        0x1402 => components::<0x1402>(part, size, normalize),
+        0x1401 => components::<0x1401>(part, size, normalize),
+        0x140C => components::<0x140C>(part, size, normalize),
+        0x1400 => components::<0x1400>(part, size, normalize),
+        _ => components::<0x1403>(part, size, normalize),
     }
-    if ty == 0x1402 {
-        return shorts(part, size, normalize);
-    }
-    if ty == 0x1401 {
-        return unsigned_bytes(part, size, normalize);
-    }
-    if ty == 0x140C {
-        return fixeds(part, size);
-    }
-    if ty == 0x1400 {
-        return signed_bytes(part, size, normalize);
-    }
-    unsigned_shorts(part, size, normalize)
 }
 
-// A position's components: the commonest types in the caller's own code, the others by a call.
+// The same with the types FIRST and SECOND, the commonest of a kind of array, in the caller's own code, the others by a call.
 // Each way out is a return of its own, so that only a call's components pass through memory.
-fn position_components(part: &[u8], ty: u32, size: u32) -> Vec4
+fn components_by<const NORMALIZE: bool, const FIRST: u32, const SECOND: u32>(
+    part: &[u8],
+    ty: u32,
+    size: u32,
+) -> Vec4
     requires { (length part.now ≡ component_bytes ty * size) × (0 < component_bytes ty) }
-    ensures { result ≡ vector_of ty size false part.now }
+    ensures { result ≡ vector_of ty size NORMALIZE part.now }
 {
-    if ty == 0x1406 {
-        return floats(part, size);
+    if ty == FIRST {
+        return components::<FIRST>(part, size, NORMALIZE);
     }
-    if ty == 0x1402 {
-        return shorts(part, size, false);
+    if ty == SECOND {
+        return components::<SECOND>(part, size, NORMALIZE);
     }
-    vector(part, ty, size, false)
-}
-
-// The same for a colour, normalised.
-fn color_components(part: &[u8], ty: u32, size: u32) -> Vec4
-    requires { (length part.now ≡ component_bytes ty * size) × (0 < component_bytes ty) }
-    ensures { result ≡ vector_of ty size true part.now }
-{
-    if ty == 0x1401 {
-        return unsigned_bytes(part, size, true);
-    }
-    if ty == 0x1406 {
-        return floats(part, size);
-    }
-    vector(part, ty, size, true)
-}
-
-// The same for a texture pair, whose code stands at four places.
-fn pair_components(part: &[u8], ty: u32, size: u32) -> Vec4
-    requires { (length part.now ≡ component_bytes ty * size) × (0 < component_bytes ty) }
-    ensures { result ≡ vector_of ty size false part.now }
-{
-    if ty == 0x1406 {
-        return floats(part, size);
-    }
-    vector(part, ty, size, false)
-}
-
-// Why an array has no element, whatever the index.
-#[derive(Clone, Copy)]
-pub enum Failure {
-    None,
-    UnknownType,
-    Overflow,
-    NoBuffer,
-    Unreadable,
+    vector(part, ty, size, NORMALIZE)
 }
 
 // An array as a draw holds it: what is the same for every index. The element at an address from `low` to `last` has `len` bytes from
@@ -265,7 +150,7 @@ pub enum Failure {
 #[derive(Clone, Copy)]
 pub struct Prepared {
     pub array: ArrayPointer,
-    pub failure: Failure,
+    pub failure: Option<FetchFailure>,
     pub len: u32,
     pub stride: u32,
     pub low: u32,
@@ -282,11 +167,8 @@ fn last_address(low: u32, room: usize, len: usize) -> u32
     ensures { result ≡ min (low + (room - len)) last_address }
 {
     let span = room - len;
-    let most = 0xffff_ffff - low;
-    if span < most as usize {
-        return low + span as u32;
-    }
-    0xffff_ffff
+    let most = u32::MAX - low;
+    low + span.min(most as usize) as u32
 }
 
 // The distance between elements, by the stride and the element's length. It is 0 for a length past 32 bits: such an array has no element.
@@ -303,12 +185,12 @@ fn step_of(stride: u32, len: u64) -> u32
 }
 
 // An array with no element: `low` above `last`.
-fn without_elements(array: ArrayPointer, failure: Failure, stride: u32) -> Prepared
-    ensures { result ≡ record { array = array; failure = failure; len = 0; stride = stride; low = 1; last = 0; origin = 0 } }
+fn without_elements(array: ArrayPointer, failure: FetchFailure, stride: u32) -> Prepared
+    ensures { result ≡ record { array = array; failure = Some failure; len = 0; stride = stride; low = 1; last = 0; origin = 0 } }
 {
     Prepared {
         array,
-        failure,
+        failure: Some(failure),
         len: 0,
         stride,
         low: 1,
@@ -318,28 +200,27 @@ fn without_elements(array: ArrayPointer, failure: Failure, stride: u32) -> Prepa
 }
 
 // Finds what is the same for every index, in the order in which a fetch tests it.
-fn prepare(b: Buffers, store: &[u8], base: u32, guest: &[u8], array: ArrayPointer) -> Prepared
-    ensures { Prepares (contents_of b.slots store.now) base store.now guest.now array result }
+fn prepare<'a>(memory: &Memory<'a>, array: ArrayPointer) -> Prepared
+    ensures { let m = memory.now in Prepares (contents_of m.buffers.slots m.store.now) m.base m.store.now m.guest.now array result }
 {
-    let x = fetch::find_extent(b, store, base, guest, array.buffer);
-    let width = component_bytes(array.ty) as u64;
-    let len = width * (array.size as u64);
+    let width = u64::from(component_bytes(array.ty));
+    let len = width * u64::from(array.size);
     let stride = step_of(array.stride, len);
     if width == 0 {
-        return without_elements(array, Failure::UnknownType, stride);
+        return without_elements(array, FetchFailure::UnknownType, stride);
     }
     if LAST_ADDRESS < len {
-        return without_elements(array, Failure::Overflow, stride);
+        return without_elements(array, FetchFailure::Overflow, stride);
     }
-    if !x.known {
-        return without_elements(array, Failure::NoBuffer, stride);
-    }
+    let Some(x) = memory.find_extent(array.buffer) else {
+        return without_elements(array, FetchFailure::NoBuffer, stride);
+    };
     if x.room < len as usize {
-        return without_elements(array, Failure::Unreadable, stride);
+        return without_elements(array, FetchFailure::Unreadable, stride);
     }
     Prepared {
         array,
-        failure: Failure::None,
+        failure: None,
         len: len as u32,
         stride,
         low: x.low,
@@ -348,61 +229,28 @@ fn prepare(b: Buffers, store: &[u8], base: u32, guest: &[u8], array: ArrayPointe
     }
 }
 
-// Where an element starts in the store or in the guest bytes, or why it is not there.
-#[derive(Clone, Copy)]
-pub enum Location {
-    At(usize),
-    UnknownType,
-    Overflow,
-    NoBuffer,
-    Unreadable,
-}
-
 // Why there is no element at an address.
-fn missing(failure: Failure, address: u64) -> Location
+fn missing(failure: Option<FetchFailure>, address: u64) -> FetchFailure
     ensures { result ≡ missing_at failure address }
 {
     match failure {
-        Failure::UnknownType => Location::UnknownType,
-        Failure::Overflow => Location::Overflow,
-        Failure::NoBuffer => {
-            if LAST_ADDRESS < address {
-                Location::Overflow
-            } else {
-                Location::NoBuffer
-            }
-        }
-        Failure::Unreadable => {
-            if LAST_ADDRESS < address {
-                Location::Overflow
-            } else {
-                Location::Unreadable
-            }
-        }
-        Failure::None => {
-            if LAST_ADDRESS < address {
-                Location::Overflow
-            } else {
-                Location::Unreadable
-            }
-        }
+        Some(FetchFailure::UnknownType) => FetchFailure::UnknownType,
+        _ if LAST_ADDRESS < address => FetchFailure::Overflow,
+        Some(f) => f,
+        None => FetchFailure::Unreadable,
     }
 }
 
-// Finds an element: the search and the fetches ask it.
-fn find_element(e: Prepared, index: u32) -> Location
+// Where an element starts in the store or in the guest bytes, or why it is not there: the search and the fetches ask it.
+fn find_element(e: Prepared, index: u32) -> Result<usize, FetchFailure>
     ensures { result ≡ location_of e index }
 {
-    let address = (e.array.pointer as u64) + (e.stride as u64) * (index as u64);
-    let low = e.low as u64;
-    let failure = e.failure;
-    if address < low {
-        return missing(failure, address);
+    let address = u64::from(e.array.pointer) + u64::from(e.stride) * u64::from(index);
+    let low = u64::from(e.low);
+    if address < low || u64::from(e.last) < address {
+        return Err(missing(e.failure, address));
     }
-    if (e.last as u64) < address {
-        return missing(failure, address);
-    }
-    Location::At(((e.origin as u64) + (address - low)) as usize)
+    Ok((u64::from(e.origin) + (address - low)) as usize)
 }
 
 // The `len` bytes from `at` on, a part of the guest bytes with buffer 0, else of the store. Nothing is copied.
@@ -417,8 +265,8 @@ fn element<'a>(store: &'a [u8], guest: &'a [u8], buffer: u32, at: usize, len: us
     }
 }
 
-// Element `index` of an array: as a position, as a colour (normalised), as a texture pair. `s` is for the contract alone: no code reads it.
-fn fetch_position<'a>(
+// Element `index` of an array whose commonest types are FIRST and SECOND. `s` is for the contract alone: no code reads it.
+fn fetch_element<'a, const NORMALIZE: bool, const FIRST: u32, const SECOND: u32>(
     s: DrawInputs,
     e: Prepared,
     store: &'a [u8],
@@ -426,69 +274,26 @@ fn fetch_position<'a>(
     index: u32,
 ) -> Fetched
     requires { PreparesFor (scene_in s store.now guest.now) store.now e.array e }
-    ensures { result ≡ element_of (scene_in s store.now guest.now) e.array index false }
+    ensures { result ≡ element_of (scene_in s store.now guest.now) e.array index NORMALIZE }
 {
-    let location = find_element(e, index);
-    match location {
-        Location::At(at) => {
-            let array = e.array;
-            let part = element(store, guest, array.buffer, at, e.len as usize);
-            Fetched::Components(position_components(part, array.ty, array.size))
-        }
-        Location::UnknownType => Fetched::UnknownType,
-        Location::Overflow => Fetched::Overflow,
-        Location::NoBuffer => Fetched::NoBuffer,
-        Location::Unreadable => Fetched::Unreadable,
+    let at = find_element(e, index)?;
+    let array = e.array;
+    let part = element(store, guest, array.buffer, at, e.len as usize);
+    Ok(components_by::<NORMALIZE, FIRST, SECOND>(part, array.ty, array.size))
+}
+
+// The components of a fetch, or others where it fails.
+fn components_or(f: Fetched, other: [f32; 4]) -> [f32; 4]
+    ensures { result ≡ components_or f other }
+{
+    match f {
+        Ok(v) => [v.x, v.y, v.z, v.w],
+        Err(_) => other,
     }
 }
 
-fn fetch_color<'a>(
-    s: DrawInputs,
-    e: Prepared,
-    store: &'a [u8],
-    guest: &'a [u8],
-    index: u32,
-) -> Fetched
-    requires { PreparesFor (scene_in s store.now guest.now) store.now e.array e }
-    ensures { result ≡ element_of (scene_in s store.now guest.now) e.array index true }
-{
-    let location = find_element(e, index);
-    match location {
-        Location::At(at) => {
-            let array = e.array;
-            let part = element(store, guest, array.buffer, at, e.len as usize);
-            Fetched::Components(color_components(part, array.ty, array.size))
-        }
-        Location::UnknownType => Fetched::UnknownType,
-        Location::Overflow => Fetched::Overflow,
-        Location::NoBuffer => Fetched::NoBuffer,
-        Location::Unreadable => Fetched::Unreadable,
-    }
-}
-
-fn fetch_pair<'a>(
-    s: DrawInputs,
-    e: Prepared,
-    store: &'a [u8],
-    guest: &'a [u8],
-    index: u32,
-) -> Fetched
-    requires { PreparesFor (scene_in s store.now guest.now) store.now e.array e }
-    ensures { result ≡ element_of (scene_in s store.now guest.now) e.array index false }
-{
-    let location = find_element(e, index);
-    match location {
-        Location::At(at) => {
-            let array = e.array;
-            let part = element(store, guest, array.buffer, at, e.len as usize);
-            Fetched::Components(pair_components(part, array.ty, array.size))
-        }
-        Location::UnknownType => Fetched::UnknownType,
-        Location::Overflow => Fetched::Overflow,
-        Location::NoBuffer => Fetched::NoBuffer,
-        Location::Unreadable => Fetched::Unreadable,
-    }
-}
+// What stands for a position or a pair that cannot be fetched.
+const ORIGIN: [f32; 4] = [0.0, 0.0, 0.0, 1.0];
 
 // A position that cannot be fetched counts as 0, 0, 0, 1; a draw with one is refused.
 fn position_at<'a>(
@@ -501,14 +306,10 @@ fn position_at<'a>(
     requires { PreparesFor (scene_in s store.now guest.now) store.now s.arrays.vertex e }
     ensures { result ≡ object_position (scene_in s store.now guest.now) index }
 {
-    let f = fetch_position(s, e, store, guest, index);
-    match f {
-        Fetched::Components(v) => [v.x, v.y, v.z, v.w],
-        Fetched::UnknownType => [0.0, 0.0, 0.0, 1.0],
-        Fetched::Overflow => [0.0, 0.0, 0.0, 1.0],
-        Fetched::NoBuffer => [0.0, 0.0, 0.0, 1.0],
-        Fetched::Unreadable => [0.0, 0.0, 0.0, 1.0],
-    }
+    components_or(
+        fetch_element::<false, 0x1406, 0x1402>(s, e, store, guest, index),
+        ORIGIN,
+    )
 }
 
 // The colour of an index: the array's where it is enabled and can be fetched, else the current one.
@@ -526,14 +327,10 @@ fn color_at<'a>(
     if !e.array.enabled {
         return current;
     }
-    let f = fetch_color(s, e, store, guest, index);
-    match f {
-        Fetched::Components(v) => [v.x, v.y, v.z, v.w],
-        Fetched::UnknownType => current,
-        Fetched::Overflow => current,
-        Fetched::NoBuffer => current,
-        Fetched::Unreadable => current,
-    }
+    components_or(
+        fetch_element::<true, 0x1401, 0x1406>(s, e, store, guest, index),
+        current,
+    )
 }
 
 // Whether the mask has the unit's stage; `place` is the unit's bit, 1, 2, 4 or 8.
@@ -557,14 +354,11 @@ fn coordinates<'a>(s: DrawInputs, e: Prepared, store: &'a [u8], guest: &'a [u8],
     requires { PreparesFor (scene_in s store.now guest.now) store.now e.array e }
     ensures { result ≡ pair_from (components_or (element_of (scene_in s store.now guest.now) e.array index false) origin) }
 {
-    let f = fetch_pair(s, e, store, guest, index);
-    match f {
-        Fetched::Components(v) => Pair { s: v.x, t: v.y },
-        Fetched::UnknownType => Pair { s: 0.0, t: 0.0 },
-        Fetched::Overflow => Pair { s: 0.0, t: 0.0 },
-        Fetched::NoBuffer => Pair { s: 0.0, t: 0.0 },
-        Fetched::Unreadable => Pair { s: 0.0, t: 0.0 },
-    }
+    let v = components_or(
+        fetch_element::<false, 0x1406, 0x1406>(s, e, store, guest, index),
+        ORIGIN,
+    );
+    Pair { s: v[0], t: v[1] }
 }
 
 // The pair of a unit, whose bit in the mask of stages is `place`.
@@ -584,11 +378,9 @@ fn pair_at<'a>(
         return Pair { s: 0.0, t: 0.0 };
     }
     if !e.array.enabled {
-        let attributes = s.attributes;
-        return arrays::unit_pair(attributes, unit);
+        return s.attributes.unit_pair(unit);
     }
-    let m = s.texture;
-    transform_pair(m, coordinates(s, e, store, guest, index))
+    transform_pair(s.texture, coordinates(s, e, store, guest, index))
 }
 
 // The arrays of a scene, prepared: once a draw.
@@ -596,43 +388,39 @@ fn pair_at<'a>(
 pub struct Plan {
     pub position: Prepared,
     pub color: Prepared,
-    pub unit0: Prepared,
-    pub unit1: Prepared,
-    pub unit2: Prepared,
-    pub unit3: Prepared,
+    pub units: [Prepared; 4],
 }
 
+// A call for each unit: of what its closure holds `map` promises too little (tried, it did not prove).
 fn plan_of(s: DrawInputs, store: &[u8], guest: &[u8]) -> Plan
     ensures { Plans (scene_in s store.now guest.now) store.now result }
 {
-    let b = s.buffers;
     let arrays = s.arrays;
-    let base = s.base;
-    let position = prepare(b, store, base, guest, arrays.vertex);
-    let color = prepare(b, store, base, guest, arrays.color);
-    let unit0 = prepare(b, store, base, guest, arrays::unit_array(arrays, 0));
-    let unit1 = prepare(b, store, base, guest, arrays::unit_array(arrays, 1));
-    let unit2 = prepare(b, store, base, guest, arrays::unit_array(arrays, 2));
-    let unit3 = prepare(b, store, base, guest, arrays::unit_array(arrays, 3));
+    let memory = Memory {
+        buffers: s.buffers,
+        store,
+        base: s.base,
+        guest,
+    };
+    let position = prepare(&memory, arrays.vertex);
+    let color = prepare(&memory, arrays.color);
+    let unit0 = prepare(&memory, arrays.unit_array(0));
+    let unit1 = prepare(&memory, arrays.unit_array(1));
+    let unit2 = prepare(&memory, arrays.unit_array(2));
+    let unit3 = prepare(&memory, arrays.unit_array(3));
     Plan {
         position,
         color,
-        unit0,
-        unit1,
-        unit2,
-        unit3,
+        units: [unit0, unit1, unit2, unit3],
     }
 }
 
-// The four pairs of an index, by unit.
+// The four pairs of an index, by unit. A call for each, so that unit and bit are constants there.
 fn pairs_at<'a>(s: DrawInputs, p: Plan, store: &'a [u8], guest: &'a [u8], index: u32) -> [f32; 8]
     requires { Plans (scene_in s store.now guest.now) store.now p }
     ensures { result ≡ texcoords_of (scene_in s store.now guest.now) index }
 {
-    let e0 = p.unit0;
-    let e1 = p.unit1;
-    let e2 = p.unit2;
-    let e3 = p.unit3;
+    let [e0, e1, e2, e3] = p.units;
     let t0 = pair_at(s, e0, store, guest, index, 0, 1);
     let t1 = pair_at(s, e1, store, guest, index, 1, 2);
     let t2 = pair_at(s, e2, store, guest, index, 2, 4);
@@ -645,14 +433,10 @@ fn assemble<'a>(s: DrawInputs, p: Plan, store: &'a [u8], guest: &'a [u8], index:
     requires { Plans (scene_in s store.now guest.now) store.now p }
     ensures { result ≡ vertex_of (scene_in s store.now guest.now) index }
 {
-    let ce = p.color;
-    let color = color_at(s, ce, store, guest, index);
-    let e = p.position;
-    let o = position_at(s, e, store, guest, index);
-    let transform = s.transform;
-    let modelview = s.modelview;
-    let position = matrix::transform(transform, o);
-    let eye = matrix::transform(modelview, o);
+    let color = color_at(s, p.color, store, guest, index);
+    let o = position_at(s, p.position, store, guest, index);
+    let position = matrix::transform(s.transform, o);
+    let eye = matrix::transform(s.modelview, o);
     let texcoords = pairs_at(s, p, store, guest, index);
     Vertex {
         position,
@@ -662,62 +446,32 @@ fn assemble<'a>(s: DrawInputs, p: Plan, store: &'a [u8], guest: &'a [u8], index:
     }
 }
 
-// The number of what is found of a position, 0 where it can be fetched.
-fn location_number(location: Location) -> u32
-    ensures { (f : Bool → Fetched) (a : ArrayPointer) (source : List ℕ) (len : ℕ) → Locates f a source len location → result ≡ position_number (f false) }
-{
-    match location {
-        Location::At(_at) => 0,
-        Location::UnknownType => 9,
-        Location::Overflow => 9,
-        Location::NoBuffer => 9,
-        Location::Unreadable => 9,
-    }
-}
-
-// The number of the position at a place of the index list, 0 where it can be fetched.
-fn position_number_at<'a>(
-    s: DrawInputs,
-    store: &'a [u8],
-    guest: &'a [u8],
-    kind: Indices,
-    list: &[u32],
-    elements: &[u8],
-    place: usize,
-) -> u32
-    ensures { result ≡ position_at (scene_in s store.now guest.now) (index_list kind list.now elements.now) place }
-{
-    let b = s.buffers;
-    let a = s.arrays.vertex;
-    let e = prepare(b, store, s.base, guest, a);
-    location_number(find_element(e, vertex::index_at(kind, list, elements, place)))
-}
-
 // The first of n places whose position cannot be fetched, or n.
 fn first_failing<'a>(
     s: DrawInputs,
     store: &'a [u8],
     guest: &'a [u8],
-    kind: Indices,
-    list: &[u32],
-    elements: &[u8],
+    list: IndexList<'a>,
     n: usize,
 ) -> usize
-    ensures { result ≡ first n (fails (scene_in s store.now guest.now) (index_list kind list.now elements.now)) }
+    ensures { result ≡ first n (fails (scene_in s store.now guest.now) (index_list list.entry)) }
 {
-    let b = s.buffers;
-    let a = s.arrays.vertex;
-    let e = prepare(b, store, s.base, guest, a);
+    let memory = Memory {
+        buffers: s.buffers,
+        store,
+        base: s.base,
+        guest,
+    };
+    let e = prepare(&memory, s.arrays.vertex);
     let mut i = 0;
     loop {
         if n <= i {
             break i;
         }
-        let location = find_element(e, vertex::index_at(kind, list, elements, i));
-        if location_number(location) != 0 {
-            break i;
+        match find_element(e, list.index(i)) {
+            Ok(_at) => i += 1,
+            Err(_) => break i,
         }
-        i += 1;
     }
 }
 
@@ -725,55 +479,42 @@ fn first_failing<'a>(
 fn has_vertices(a: ArrayPointer) -> bool
     ensures { result ≡ has_vertices a }
 {
-    if !a.enabled {
-        return false;
-    }
-    if a.buffer != 0 {
-        return true;
-    }
-    a.pointer != 0
+    a.enabled && (a.buffer != 0 || a.pointer != 0)
 }
 
-// The number of the first test that fails, 0 where all pass. The room in the output is tested after them.
+// The tests of a draw, in their order. The room in the output is tested after them.
 pub fn validate<'a>(
     s: DrawInputs,
     store: &'a [u8],
     guest: &'a [u8],
     mode: u32,
-    kind: Indices,
-    list: &[u32],
-    elements: &[u8],
-) -> u32
-    ensures { result ≡ list_number (scene_in s store.now guest.now) mode (index_list kind list.now elements.now) }
+    list: IndexList<'a>,
+) -> Result<(), Refusal>
+    ensures { number_in result ≡ list_number (scene_in s store.now guest.now) mode (index_list list.entry) }
 {
-    let a = s.arrays.vertex;
-    if !has_vertices(a) {
-        return 8;
+    if !has_vertices(s.arrays.vertex) {
+        return Err(Refusal::NoVertices);
     }
-    let n = vertex::index_count(kind, list, elements);
-    let place = first_failing(s, store, guest, kind, list, elements, n);
+    let n = list.len();
+    let place = first_failing(s, store, guest, list, n);
     if place < n {
-        return position_number_at(s, store, guest, kind, list, elements, place);
+        return Err(Refusal::NoPosition);
     }
     if 6 < mode {
-        return 0x0500;
+        return Err(Refusal::InvalidEnum);
     }
     if mode < 4 {
-        return 10;
+        return Err(Refusal::NoTriangles);
     }
-    0
+    Ok(())
 }
 
-fn put4(out: &mut [f32], at: usize, a: [f32; 4])
-    requires { at + 4 ≤ length out.old }
-    ensures { out.new ≡ sets out.old at (four a) }
+// Writes f32 from `at` on.
+fn put(out: &mut [f32], at: usize, words: &[f32])
+    requires { at + length words.now ≤ length out.old }
+    ensures { out.new ≡ sets out.old at words.now }
 {
-    let b = at + 1;
-    let c = b + 1;
-    out[at] = a[0];
-    out[b] = a[1];
-    out[c] = a[2];
-    out[c + 1] = a[3];
+    out[at..at + words.len()].copy_from_slice(words);
 }
 
 // Writes the 17 f32 of a vertex.
@@ -781,22 +522,18 @@ fn write_vertex(out: &mut [f32], at: usize, v: Vertex)
     requires { at + 17 ≤ length out.old }
     ensures { out.new ≡ sets out.old at (vertex_words v) }
 {
-    let position = v.position;
-    let color = v.color;
-    let t = v.texcoords;
-    put4(out, at, position);
-    put4(out, at + 4, color);
-    put4(out, at + 8, [t[0], t[1], t[2], t[3]]);
-    put4(out, at + 12, [t[4], t[5], t[6], t[7]]);
+    put(out, at, &v.position);
+    put(out, at + 4, &v.color);
+    put(out, at + 8, &v.texcoords);
     out[at + 16] = v.fog;
 }
 
 // The index of a corner.
-fn corner_index(p: Primitive, kind: Indices, list: &[u32], elements: &[u8], c: usize) -> u32
+fn corner_index<'a>(p: Primitive, list: IndexList<'a>, c: usize) -> u32
     requires { c < 0x4000_0000_0000_0000 }
-    ensures { result ≡ get_or (index_list kind list.now elements.now) (corner_place p c) 0 }
+    ensures { result ≡ get_or (index_list list.entry) (corner_place p c) 0 }
 {
-    vertex::index_at(kind, list, elements, corners::corner_place(p, c))
+    list.index(p.corner_place(c))
 }
 
 // Writes the first n corners.
@@ -806,22 +543,18 @@ fn write_planned<'a>(
     store: &'a [u8],
     guest: &'a [u8],
     p: Primitive,
-    kind: Indices,
-    list: &[u32],
-    elements: &[u8],
+    list: IndexList<'a>,
     n: usize,
     out: &mut [f32],
 )
     requires { (17 * n ≤ length out.old) × Plans (scene_in s store.now guest.now) store.now plan }
     ensures { out.new ≡ sets out.old 0
-        (corner_words (λ q. vertex_at (scene_in s store.now guest.now) (index_list kind list.now elements.now) (corner_place p q)) n) }
+        (corner_words (λ q. vertex_at (scene_in s store.now guest.now) (index_list list.entry) (corner_place p q)) n) }
 {
-    let mut c = 0;
-    while c < n {
-        let index = corner_index(p, kind, list, elements, c);
+    for c in 0..n {
+        let index = corner_index(p, list, c);
         let v = assemble(s, plan, store, guest, index);
         write_vertex(out, 17 * c, v);
-        c += 1;
     }
 }
 
@@ -831,20 +564,18 @@ pub fn write_corners<'a>(
     store: &'a [u8],
     guest: &'a [u8],
     p: Primitive,
-    kind: Indices,
-    list: &[u32],
-    elements: &[u8],
+    list: IndexList<'a>,
     n: usize,
     out: &mut [f32],
 )
     ensures { (17 * n ≤ length out.old
         → out.new ≡ sets out.old 0 (take (17 * n) (words_of (triangles_to (vertex_at (scene_in s store.now guest.now)
-        (index_list kind list.now elements.now)) p ((n + 2) / 3)))))
+        (index_list list.entry)) p ((n + 2) / 3)))))
         × (length out.old < 17 * n → out.new ≡ out.old) }
 {
     if out.len() / 17 < n {
         return;
     }
     let plan = plan_of(s, store, guest);
-    write_planned(s, plan, store, guest, p, kind, list, elements, n, out);
+    write_planned(s, plan, store, guest, p, list, n, out);
 }

@@ -1,11 +1,14 @@
 -- Laws of overwriting a part of a list of bytes, element by element.
-use Prim.Native.Nat.{ℕ, ◌+◌, ◌-◌, ◌<◌, ◌≤◌}
+use Prim.Native.Nat.{ℕ, ◌+◌, ◌-◌, ◌<◌, ◌≤◌, min}
+use Rattle.std.proofs.Common.{append_assoc}
+use Rattle.std.proofs.lemmas.Slice.{take-put_mid, drop-put_mid}
+use borrow.Rule.Slice.PartMut.{put_mid}
 use mathlib.Core.List.{List, ◌++◌}
 use mathlib.Core.Path.{◌≡◌, sym, ap, ◌∙◌}
 use mathlib.Core.Logic.{◌⊎◌, inl, inr, ⊎_elim}
 use native.Mathlib.Omega.{arith}
 use lib.ListN.{length, get_or, take, drop, replicate, length-append, length-take, length-drop, length-replicate, get_or-replicate, get_or-append, get_or-eq_default}
-use lib.Seq.{get_or-append-add, get_or-take, get_or-drop, ext_get_or, length-take-le, take-length, take-append_seam, take-append-le, take-take, paste}
+use lib.Seq.{get_or-append-add, get_or-take, get_or-drop, ext_get_or, length-take-le, take-append_seam, drop-drop}
 use Rattle.number.specs.Bytes.{overwrite}
 use Rattle.buffers.specs.Objects.{padded}
 use Rattle.buffers.proofs.Bounds.{lt_or_ge}
@@ -111,13 +114,29 @@ within old base n off new h inside =
         overwrite_in old (base + off) new fits (base + i) (omega arith) (omega arith) ∙ ap (λ (k : ℕ). get_or new k 0) (omega arith) ∙ sym (overwrite_in _ off new fits' i a e)
     at_place i l (inr a) (inr e) = overwrite_after old (base + off) new fits (base + i) (omega arith) ∙ sym (inner i l) ∙ sym (overwrite_after _ off new fits' i e)
 
--- a copy of the whole is the overwritten list
-pub paste_all : (old : List ℕ) (at : ℕ) (new : List ℕ) (n : ℕ) → n ≡ length new → paste old at new n ≡ overwrite old at new
-unfolding overwrite
-paste_all old at new n e = rw (e, take-length)
+-- data cut at n, then zeroes
+pub padded_parts : (n size : ℕ) (bytes : List ℕ) → n ≡ min (length bytes) size → padded size bytes ≡ take n bytes ++ replicate (size - n) 0
+padded_parts n size bytes e =
+    ext_get_or 0 _ _ (length_padded size bytes ∙ sym (simp (length-append, length-take, length-replicate) (omega arith)))
+    (λ i l.
+    let long : length (take n bytes) ≡ n = length-take-le n bytes (omega arith) in
+    let l' : i < size = omega (arith, length_padded size bytes) in
+    get_or_padded size bytes i l'
+    ∙ ⊎_elim (λ h. sym (get_or-append (take n bytes) (replicate (size - n) 0) 0 i (omega (arith, long)) ∙ get_or-take n bytes i 0 h))
+    (λ h. get_or-eq_default bytes 0 (omega arith)
+    ∙ sym (past (take n bytes) (replicate (size - n) 0) i (omega (arith, long)) ∙ get_or-replicate (size - n) (i - length (take n bytes)) 0 0 (omega (arith, long))))
+    (lt_or_ge i n))
 
--- the first n bytes in their place
-pub first_part : (old : List ℕ) (at n size : ℕ) (bytes : List ℕ) → n ≤ length bytes → n ≤ size → overwrite old at (take n bytes) ≡ paste old at (padded size bytes) n
-unfolding overwrite padded
-first_part old at n size bytes h l =
-    rw (length-take-le n bytes h, take-take n size (bytes ++ replicate size 0) l, take-append-le n bytes (replicate size 0) h)
+-- a copy and a fill, one after the other
+pub copied_filled : (old : List ℕ) (at n size : ℕ) (bytes part zeros : List ℕ) → at + size ≤ length old → n ≡ min (length bytes) size
+    → part ≡ take n bytes → zeros ≡ replicate (size - n) 0
+    → put_mid (at + n) (at + size - (at + n)) (put_mid at (at + n - at) old part) zeros ≡ overwrite old at (padded size bytes)
+unfolding overwrite
+copied_filled old at n size bytes part zeros fits e copied filled =
+    let long : length part ≡ n = ap length copied ∙ length-take-le n bytes (omega arith) in
+    let sum : at + length (padded size bytes) ≡ at + n + (at + size - (at + n)) = omega (arith, length_padded size bytes) in
+    let whole : padded size bytes ≡ part ++ zeros = padded_parts n size bytes e ∙ sym (ap (λ (x : List ℕ). x ++ zeros) copied ∙ ap (λ (x : List ℕ). take n bytes ++ x) filled) in
+    rw (
+      take-put_mid at (at + n - at) old part (at + n) (omega arith) (omega arith),
+      drop-put_mid at (at + n - at) old part (at + n) (omega arith) (omega arith) (omega arith),
+    ) (rw (drop-drop (at + size - (at + n)) (at + n) old, sum, whole) (simp append_assoc))

@@ -5,12 +5,14 @@ use mathlib.Core.List.{List}
 use mathlib.Core.Logic.{inl, inr}
 use mathlib.Core.Path.{◌≡◌, refl, sym, ap, ◌∙◌}
 use native.Mathlib.Omega.{arith}
-use lib.Dec.{ltb}
+use lib.Dec.{eqb, ltb}
 use lib.ListN.{length}
-use borrow.Author.Tests.{ltb-true, ltb-false}
+use borrow.Author.Tests.{eqb-true, eqb-false, lt-ltb, ltb-true, ltb-false}
 use Rattle.number.specs.Decides.{Decides}
 use Rattle.buffers.specs.Objects.{name_at, slot_of, Bindable, Sound, SoundIs}
-use Rattle.buffers.specs.ObjectsCode.{SlotSound}
+use Rattle.std.specs.Prelude.{Option, Some, None, is_some}
+use Rattle.std.specs.Option.{option_eq}
+use Rattle.buffers.specs.ObjectsCode.{SlotSound, FindsSlot}
 use Rattle.buffers.specs.declared.Slot.{Slot}
 use Rattle.buffers.specs.declared.Buffers.{Buffers}
 use Rattle.buffers.proofs.Bounds.{never}
@@ -40,6 +42,16 @@ sound_facts b each a e =
       element_live = e;
     }
 
+-- ---- a slot that was found or not
+
+pub slot_missing : (slots : List Slot) (n : ℕ) (r : Option ℕ) → FindsSlot slots n r → is_some r ≡ false → 16 ≤ slot_of slots n
+slot_missing slots n None h e = omega arith
+slot_missing slots n (Some k) h e = never true refl e
+
+pub slot_there : (slots : List Slot) (n : ℕ) (r : Option ℕ) → FindsSlot slots n r → is_some r ≡ true → slot_of slots n < 16
+slot_there slots n None h e = never false e refl
+slot_there slots n (Some k) h e = omega (arith, h.0, h.1)
+
 -- a nonzero name is bindable where a slot is found for it
 pub bindable_found : (slots : List Slot) (n k : ℕ) → k ≡ slot_of slots n → (n ≡ 0 → ⊥) → Decides (Bindable slots n) (ltb k 16)
 bindable_found slots n k found z = record { yes = λ e. there (ltb-true k 16 e); no = λ e. away (ltb-false k 16 e) }
@@ -50,3 +62,16 @@ bindable_found slots n k found z = record { yes = λ e. there (ltb-true k 16 e);
     away : 16 ≤ k → Bindable slots n → ⊥
     away h (inl e) = z e
     away h (inr l) = slot_unknown slots n (omega arith) l.slot l.within l.holds
+
+pub bindable_slot : (slots : List Slot) (n : ℕ) (r : Option ℕ) → FindsSlot slots n r → (n ≡ 0 → ⊥) → Decides (Bindable slots n) (is_some r)
+bindable_slot slots n None h z = bindable_found slots n 16 (sym h) z
+bindable_slot slots n (Some k) h z = rw (lt-ltb k 16 h.0) at (bindable_found slots n k (sym h.1) z)
+
+-- a slot is the first with a nonzero name where it is found for it
+pub first_found : (slots : List Slot) (n k : ℕ) (r : Option ℕ) → FindsSlot slots n r → (n ≡ 0 → ⊥) → Decides (0 < n → (k < 16) × (slot_of slots n ≡ k)) (option_eq eqb r (Some k))
+first_found slots n k None h z = fails (λ f. let g = f (omega (arith, z)) in omega (arith, g.0, g.1, h))
+first_found slots n k (Some j) h z =
+    record {
+      yes = λ e p. let q = eqb-true j k e in (omega (arith, h.0, q), h.1 ∙ q);
+      no = λ e f. eqb-false j k e (sym h.1 ∙ (f (omega (arith, z))).1);
+    }

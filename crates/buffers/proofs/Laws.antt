@@ -8,8 +8,9 @@ use mathlib.Core.Path.{◌≡◌, refl, sym, ap, ◌∙◌}
 use native.Mathlib.Omega.{arith}
 use lib.Dec.{eqb, ltb}
 use borrow.Author.Tests.{ltb-true, lt-ltb, not-true, eq-eqb, ne_eqb}
+use Rattle.refusal.specs.Refusals.{answer}
 use Rattle.buffers.specs.Bounded.{count}
-use Rattle.buffers.specs.Objects.{Objects, objects, absent, name_at, slot_of, contents_of, live_names, make, answer, gen_names, gen_answer, delete_name, room_for, Sound}
+use Rattle.buffers.specs.Objects.{Objects, objects, absent, name_at, slot_of, contents_of, live_names, make, gen_names, gen_answer, delete_name, room_for, Sound}
 use Rattle.buffers.specs.ObjectsCode.{live_in}
 use Rattle.buffers.specs.declared.Buffers.{Buffers}
 use Rattle.buffers.proofs.Bounds.{never, same?, count_ext, count_more, count_le, count_suc, count_image}

@@ -8,6 +8,6 @@ pub mod Binding
 pub mod Removal
 pub mod Generation
 pub mod Bytes
+pub mod Targets
 pub mod Uploads
 pub mod Deciding
-pub mod Living

@@ -26,7 +26,16 @@ unlike b n z unknown s q =
 module _ (b : Buffers) (sound : Sound b) (n : ℕ) where
   pub made_zero : n ≡ 0 → MakesName b n true b
   unfolding named
-  made_zero e = record { room = λ s. simp (eq-eqb n 0 e); state = λ s. simp (eq-eqb n 0 e); sound = sound; bound = λ h. inl e; slots = filled_same; stays = λ s q. refl }
+  made_zero e =
+      record {
+        room = λ s. simp (eq-eqb n 0 e);
+        state = λ s. simp (eq-eqb n 0 e);
+        sound = sound;
+        bound = λ h. inl e;
+        slots = filled_same;
+        stays = λ s q. refl;
+        full = λ q. refl;
+      }
 
   module _ (z : n ≡ 0 → ⊥) (k : ℕ) (found : k ≡ slot_of b.slots n) where
     pub made_live : (next : ℕ) → k < 16 → next ≡ max b.next (n + 1)
@@ -47,6 +56,7 @@ module _ (b : Buffers) (sound : Sound b) (n : ℕ) where
             array_buffer = b.array_buffer;
             element_buffer = b.element_buffer;
           };
+          full = λ q. never true refl q;
         }
       where
         below : max b.next (n + 1) ≡ b.next
@@ -64,6 +74,7 @@ module _ (b : Buffers) (sound : Sound b) (n : ℕ) where
             bound = λ q. never false q refl;
             slots = filled_same;
             stays = λ s q. refl;
+            full = λ q. refl;
           }
 
       pub made_new : length b.slots ≡ 16 → (next : ℕ) → f < 16 → next ≡ max b.next (n + 1)
@@ -92,4 +103,5 @@ module _ (b : Buffers) (sound : Sound b) (n : ℕ) where
             bound = λ q. inr (live_here b.slots f (slot n 0) sized h pos);
             slots = filled_set b.slots f (slot n 0) sized h pos;
             stays = λ s q. absurd (unlike b n z unknown s q);
+            full = λ q. never true refl q;
           }

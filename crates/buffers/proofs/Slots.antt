@@ -11,10 +11,17 @@ use lib.ListN.{length, get_or, take, drop, set}
 use lib.Seq.{get_or-set_same, get_or-set_other}
 use borrow.Author.Tests.{eqb-true, eqb-false, lt-ltb, le-ltb, eq-eqb, ne_eqb}
 use Rattle.buffers.specs.Objects.{free_slot, name_at, slot_of, bytes_in_slot, contents_of, Live, Bindable, Sound}
-use Rattle.buffers.specs.ObjectsCode.{live_in}
+use Rattle.std.specs.Prelude.{Option, Some, None, MatchOption}
+use Rattle.std.specs.List.{AllWithin, HoldsAt}
+use Rattle.buffers.specs.ObjectsCode.{live_in, FindsSlot}
 use Rattle.buffers.specs.declared.Slot.{Slot}
 use Rattle.buffers.specs.declared.Buffers.{Buffers}
-use Rattle.buffers.proofs.Bounds.{same?, first_cases, count_short, count_full}
+use Rattle.buffers.proofs.Bounds.{same?, first_cases, first_is, first_none, count_le, count_short, count_full}
+use Rattle.std.proofs.Common.{zero, suc, ◌+◌, add-one}
+use Rattle.std.specs.List.{count_by}
+use Rattle.std.proofs.lemmas.List.Sums.{count_by_more_yes, count_by_more_no}
+use lib.Seq.{take-length}
+use Rattle.buffers.specs.Bounded.{count}
 
 abbrev pub slot : ℕ → ℕ → Slot
 slot n l = record { name = n; len = l }
@@ -46,6 +53,15 @@ slot_found slots n h = ⊎_elim (λ f. absurd (omega arith)) (λ f. f.1) (slot_c
 pub slot_is : (slots : List Slot) → Once slots → (n k : ℕ) → 0 < n → k < 16 → name_at slots k ≡ n → slot_of slots n ≡ k
 slot_is slots once n k pos h e =
     ⊎_elim (λ f. absurd (f.1 k h e)) (λ f. once (slot_of slots n) k f.0 h (omega (arith, f.1)) (f.1 ∙ sym e)) (slot_cases slots n)
+
+-- the first of the slots with the name, as `position` finds it
+pub finds_slot : (slots : List Slot) (n : ℕ) → length slots ≡ 16 → (r : Option ℕ) → MatchOption r (AllWithin (λ x. x.name ≡ n → ⊥) slots 0 (length slots))
+    (λ k. (k < length slots) × HoldsAt (λ x. x.name ≡ n) slots k × AllWithin (λ x. x.name ≡ n → ⊥) slots 0 k) → FindsSlot slots n r
+unfolding slot_of
+finds_slot slots n sized None h = first_none 16 _ (λ j l. ne_eqb _ _ (h j free_slot (omega arith) (omega arith)))
+finds_slot slots n sized (Some k) h =
+    let l : k < 16 = omega (arith, h.0) in
+    (l, first_is 16 _ k l (eq-eqb _ _ (h.1 free_slot)) (λ j m. ne_eqb _ _ (h.2 j free_slot (omega arith) m)))
 
 -- ---- what a name holds
 
@@ -171,6 +187,24 @@ sound_set b sound k x sized within alone small next a e more past al el =
     }
 
 -- ---- the count of live names
+
+-- by the slots one by one
+count_taken : (P : Slot → Bool) (xs : List Slot) (i : ℕ) → i ≤ length xs → count i (λ k. P (get_or xs k free_slot)) ≡ count_by P (take i xs)
+unfolding count
+count_taken P xs zero h = refl
+count_taken P xs (suc i) h = go (P (get_or xs i free_slot)) refl (count_taken P xs i (omega arith))
+  where
+    go : (t : Bool) → P (get_or xs i free_slot) ≡ t → count i (λ k. P (get_or xs k free_slot)) ≡ count_by P (take i xs)
+        → count i (λ k. P (get_or xs k free_slot)) + cond (P (get_or xs i free_slot)) 1 0 ≡ count_by P (take (suc i) xs)
+    go true e q = rw (e, ← add-one i, count_by_more_yes P xs i free_slot (omega arith) e, q) refl
+    go false e q = rw (e, ← add-one i, count_by_more_no P xs i free_slot (omega arith) e) (omega (arith, q))
+
+pub live_by : (slots : List Slot) → length slots ≡ 16 → (n : ℕ) → n ≡ count_by (λ x. ltb 0 x.name) slots → (n ≡ live_in slots) × (n ≤ 16)
+unfolding live_in
+live_by slots sized n e =
+    let all : take 16 slots ≡ slots = ap (λ k. take k slots) (sym sized) ∙ take-length slots in
+    let q = e ∙ sym (count_taken (λ x. ltb 0 x.name) slots 16 (omega arith) ∙ ap (count_by (λ x. ltb 0 x.name)) all) in
+    (q, omega (arith, q, count_le 16 (λ k. ltb 0 (name_at slots k))))
 
 -- a slot is free exactly where fewer than 16 are in use
 pub live_room : (slots : List Slot) → slot_of slots 0 < 16 → live_in slots < 16

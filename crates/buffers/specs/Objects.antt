@@ -1,9 +1,11 @@
 -- The buffer objects of ES 1.1 that slots and a store stand for. Which slot holds a name, and what the store holds outside live buffers, do not show in them.
 use Rattle.std.specs.Prelude.{ℕ, zero, suc, ◌+◌, ◌*◌, ◌<◌, ◌≤◌, max, Bool, true, false, not, cond, ◌&&◌, ◌||◌, List, [], ◌∷◌, ◌++◌, ◌⊎◌, ◌≡◌, length, get_or, take, drop, replicate}
-use Rattle.std.specs.Prelude.{eqb, ltb, leb}
+use Rattle.std.specs.Prelude.{eqb, ltb, leb, Result, Ok, Err}
 use Rattle.std.proofs.Math.Option.{Option, some, none}
 use Rattle.number.specs.Decides.{Decides}
 use Rattle.number.specs.Bytes.{overwrite}
+use Rattle.refusal.specs.Refusals.{Answer, answer}
+use Rattle.refusal.specs.declared.Refusal.{Refusal}
 use Rattle.buffers.specs.Bounded.{first, count}
 use Rattle.buffers.specs.declared.Slot.{Slot}
 use Rattle.buffers.specs.declared.Buffers.{Buffers}
@@ -123,18 +125,10 @@ pub record FreeSlots (before after : List Slot) : Type 0 where
 
 -- ---- the calls
 
--- a call's number, and the objects after it
-pub record Answer : Type 0 where
-  pub number : ℕ
-  pub after : Objects
-
-abbrev pub answer : ℕ → Objects → Answer
-answer n o = record { number = n; after = o }
-
 -- The contract of a call that borrows no store, by the rule for its objects. Unsound buffers are refused with 1 and stay. Else
 -- number and objects are the rule's over any store, the buffers stay sound, and a free slot's length is settled. A refusal whose
 -- rule leaves the objects changes nothing; the one other refusal is bind's at a refused target, 0x0500, which makes a new name.
-pub record Answers (b : Buffers) (rule : Objects → Answer) (number : ℕ) (r : Buffers) : Type 0 where
+pub record Answers (b : Buffers) (rule : Objects → Answer Objects) (number : ℕ) (r : Buffers) : Type 0 where
   pub unsound : (Sound b → ⊥) → (number ≡ 1) × (r ≡ b)
   pub ruled : Sound b → (s : List ℕ) → answer number (objects r s) ≡ rule (objects b s)
   pub kept : Sound b → Sound r
@@ -144,7 +138,7 @@ pub record Answers (b : Buffers) (rule : Objects → Answer) (number : ℕ) (r :
 -- The contract of a call that borrows the store, which holds s before and s' after. Unsound buffers or a store of another length
 -- are refused with 1. Else number and objects are the rule's, the buffers stay sound, and a free slot's length is settled. A
 -- refusal changes neither buffers nor store.
-pub record AnswersIn (b : Buffers) (s : List ℕ) (rule : Objects → Answer) (number : ℕ) (r : Buffers) (s' : List ℕ) : Type 0 where
+pub record AnswersIn (b : Buffers) (s : List ℕ) (rule : Objects → Answer Objects) (number : ℕ) (r : Buffers) (s' : List ℕ) : Type 0 where
   pub invalid : (Sound b → length s ≡ store_bytes → ⊥) → number ≡ 1
   pub ruled : Sound b → length s ≡ store_bytes → answer number (objects r s') ≡ rule (objects b s)
   pub kept : Sound b → Sound r
@@ -169,7 +163,7 @@ unfoldable pub gen_names : ℕ → Objects → Objects
 gen_names zero o = o
 gen_names (suc n) o = gen_names n (make o o.next)
 
-unfoldable pub gen_answer : Objects → ℕ → Answer
+unfoldable pub gen_answer : Objects → ℕ → Answer Objects
 gen_answer o n =
     cond (ltb slot_count (live_names o + n)) (answer 4 o)
     (cond (ltb last_name (o.next + n)) (answer 5 o)
@@ -178,6 +172,11 @@ gen_answer o n =
 -- gen's first name: next at entry, or 0 where it is refused or makes none
 abbrev pub gen_first : ℕ → ℕ → ℕ → ℕ
 gen_first number next n = cond (eqb number 0 && ltb 0 n) next 0
+
+-- the first name in gen's answer, 0 where it is refused
+abbrev pub first_in : Result ℕ Refusal → ℕ
+first_in (Ok first) = first
+first_in (Err r) = 0
 
 pub record Generates (b : Buffers) (n : ℕ) (number : ℕ) (first : ℕ) (r : Buffers) : Type 0 where
   pub answers : Answers b (λ o. gen_answer o n) number r
@@ -203,7 +202,7 @@ bind_element o n = record { next = o.next; contents = o.contents; array = o.arra
 abbrev pub room_for : Objects → ℕ → Bool
 room_for o n = eqb n 0 || (not (absent (o.contents n)) || ltb (live_names o) slot_count)
 
-unfoldable pub bind_answer : Objects → ℕ → ℕ → Answer
+unfoldable pub bind_answer : Objects → ℕ → ℕ → Answer Objects
 bind_answer o target n =
     cond (leb last_name n) (answer 5 o)
     (cond (not (room_for o n)) (answer 4 o)
@@ -230,7 +229,7 @@ unfoldable pub delete_names : List ℕ → Objects → Objects
 delete_names [] o = o
 delete_names (n ∷ ns) o = delete_names ns (delete_name o n)
 
-abbrev pub delete_answer : Objects → List ℕ → Answer
+abbrev pub delete_answer : Objects → List ℕ → Answer Objects
 delete_answer o names = answer 0 (delete_names names o)
 
 -- ---- data and sub-data
@@ -256,14 +255,14 @@ with_bytes o n bytes =
 unfoldable pub padded : ℕ → List ℕ → List ℕ
 padded size bytes = take size (bytes ++ replicate size 0)
 
-unfoldable pub data_answer : Objects → ℕ → ℕ → List ℕ → Answer
+unfoldable pub data_answer : Objects → ℕ → ℕ → List ℕ → Answer Objects
 data_answer o target size bytes =
     cond (not (is_target target)) (answer 0x0500 o)
     (cond (eqb (bound_at o target) 0) (answer 0x0502 o)
     (cond (ltb slot_bytes size) (answer 6 o)
     (answer 0 (with_bytes o (bound_at o target) (padded size bytes)))))
 
-unfoldable pub sub_data_answer : Objects → ℕ → ℕ → List ℕ → Answer
+unfoldable pub sub_data_answer : Objects → ℕ → ℕ → List ℕ → Answer Objects
 sub_data_answer o target at bytes =
     cond (eqb (bound_at o target) 0) (answer 0x0502 o)
     (cond (ltb (length (bytes_of (o.contents (bound_at o target)))) (at + length bytes)) (answer 0x0501 o)

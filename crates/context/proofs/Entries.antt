@@ -2,7 +2,7 @@
 use mathlib.Core.Bool.{Bool, true, false, not, cond, ◌&&◌}
 use mathlib.Core.List.{List}
 use mathlib.Core.Logic.{◌⊎◌, inl, inr, ⊎_elim}
-use mathlib.Core.Option.{some, none}
+use mathlib.Core.Option.{Option, get_or, some, none}
 use mathlib.Core.Path.{◌≡◌, refl, sym, ap, subst, ◌∙◌}
 use Prim.Native.Nat.{ℕ, ◌+◌, ◌<◌, max}
 use native.Mathlib.Omega.{arith}
@@ -10,12 +10,15 @@ use borrow.Author.Tests.{ne_eqb}
 use lib.Dec.{eqb, ltb, leb}
 use lib.Ieee.{Float}
 use lib.ListN.{length}
+use Rattle.std.proofs.Common.{Result, Ok, Err}
+use Rattle.std.specs.Result.{result_and}
 use Rattle.number.specs.Decides.{Decides}
 use Rattle.number.specs.Tables.{lookup}
+use Rattle.refusal.specs.declared.Refusal.{Refusal}
+use Rattle.refusal.specs.Refusals.{refusal_number, number_in, Answer, answer, answered}
 use Rattle.matrix.specs.Matrix.{product}
 use Rattle.stack.specs.Stack as stack
 use Rattle.stack.specs.declared.MatrixStack.{MatrixStack}
-use Rattle.stack.specs.declared.StackAnswer.{StackAnswer}
 use Rattle.stack.proofs.Stacks.{is_two, follows, stack_stays, fresh_sound, fresh_state_law}
 use Rattle.buffers.specs.Objects as buffer
 use Rattle.buffers.specs.declared.Buffers.{Buffers}
@@ -25,19 +28,15 @@ use Rattle.buffers.proofs.Laws.{live_below}
 use Rattle.arrays.specs.Arrays.{unit_count, ArrayCall, array_step, fresh_arrays}
 use Rattle.arrays.specs.Attributes.{AttributeCall, attribute_step, fresh_attributes}
 use Rattle.arrays.specs.declared.Arrays.{Arrays}
-use Rattle.arrays.specs.declared.ArraysAnswer.{ArraysAnswer}
 use Rattle.arrays.specs.declared.Attributes.{Attributes}
-use Rattle.arrays.specs.declared.AttributesAnswer.{AttributesAnswer}
 use Rattle.arrays.proofs.Laws.{array_keeps, attribute_keeps, client_stays}
 use Rattle.pipeline.specs.Pipeline.{PipelineCall, pipeline_step, fresh_pipeline}
 use Rattle.pipeline.specs.declared.Pipeline.{Pipeline}
-use Rattle.pipeline.specs.declared.PipelineAnswer.{PipelineAnswer}
 use Rattle.pipeline.proofs.Laws.{refusal_keeps, active_stays}
 use Rattle.vertex.specs.Scene.{Source, DrawCall}
 use Rattle.vertex.specs.SceneCode.{scene_in}
 use Rattle.vertex.specs.declared.DrawInputs.{DrawInputs}
-use Rattle.draw.specs.Draw.{draw_in, Draws}
-use Rattle.draw.specs.declared.Drawn.{Drawn}
+use Rattle.draw.specs.Draw.{Drawn, draw_in, Draws}
 use Rattle.context.specs.declared.MatrixMode.{MatrixMode}
 use Rattle.context.specs.declared.Stacks.{Stacks}
 use Rattle.context.specs.declared.Context.{Context}
@@ -46,10 +45,10 @@ use Rattle.context.specs.declared.Reply.{Reply}
 use Rattle.context.specs.State.{stack_at, state_of, Sound, Fresh}
 use Rattle.context.specs.Calls as calls
 use Rattle.context.specs.Calls.{BufferCall, gen_buffers, bind_buffer, delete_buffers, buffer_data, buffer_sub_data, Call, is_upload, borrows_store}
-use Rattle.context.specs.Rules.{matrix_modes, same_mode, buffer_answer, makes_name, drawing, slot_after}
+use Rattle.context.specs.Rules.{matrix_modes, known_number, mode_after, same_mode, buffer_answer, makes_name, drawing, slot_after}
 use Rattle.context.specs.Contract.{put_stack, put_buffers, put_error, noted, Valid, RefusalKeeps, Follows, Did, Does, Drew, draw_call}
 use Rattle.context.specs.ContractCode.{SoundApart, current_at, put_current, currents_of, with_current, put_currents, put_mode, put_stacks, put_arrays, put_attributes}
-use Rattle.context.specs.ContractCode.{put_pipeline, reply, Settled, inputs_for}
+use Rattle.context.specs.ContractCode.{put_pipeline, reply, currents_reply, multiplied, Changed, Settled, inputs_for}
 
 -- ---- soundness
 
@@ -79,6 +78,28 @@ whole_sound c h d =
 
 pub ready : {P Q : Type 0} {b : Bool} → Q → Decides P b → Decides (P × Q) b
 ready q d = record { yes = λ e. (d.yes e, q); no = λ e h. d.no e h.0 }
+
+-- no reason of a refusal has the number of done
+refused : (r : Refusal) → refusal_number r ≡ 0 → ⊥
+refused r e = never (eqb (refusal_number r) 0) (ap (λ (n : ℕ). eqb n 0) e) (above r)
+  where
+    above : (r : Refusal) → eqb (refusal_number r) 0 ≡ false
+    above Refusal.Invalid = refl
+    above Refusal.GuestTooLong = refl
+    above Refusal.UnknownStage = refl
+    above Refusal.NoSlot = refl
+    above Refusal.NoName = refl
+    above Refusal.TooLarge = refl
+    above Refusal.UnreadableIndices = refl
+    above Refusal.NoVertices = refl
+    above Refusal.NoPosition = refl
+    above Refusal.NoTriangles = refl
+    above Refusal.NoRoom = refl
+    above Refusal.InvalidEnum = refl
+    above Refusal.InvalidValue = refl
+    above Refusal.InvalidOperation = refl
+    above Refusal.StackOverflow = refl
+    above Refusal.StackUnderflow = refl
 
 -- ---- calls that are not valid
 
@@ -143,19 +164,19 @@ module _ (k : stack.MatrixCall) (c : Context) (h : Sound c) where
   abbrev old : MatrixStack
   old = stack_at c.mode c.stacks
 
-  abbrev new : StackAnswer
+  abbrev new : Answer MatrixStack
   new = stack.stack_answer k (stack_at c.mode c.stacks)
 
-  stack_states : (m : MatrixMode) → stack.stack_state_of (stack_at m (put_stack c.mode new.stack c.stacks))
+  stack_states : (m : MatrixMode) → stack.stack_state_of (stack_at m (put_stack c.mode new.after c.stacks))
       ≡ cond (same_mode m c.mode) (stack.stack_step k (stack.stack_state_of (stack_at m c.stacks))) (stack.stack_state_of (stack_at m c.stacks))
   stack_states =
       put_all
       (λ m x. stack.stack_state_of x ≡ cond (same_mode m c.mode) (stack.stack_step k (stack.stack_state_of (stack_at m c.stacks))) (stack.stack_state_of (stack_at m c.stacks)))
-      c.mode c.stacks new.stack
+      c.mode c.stacks new.after
       (rw (same_mode_law c.mode) (follows old (h.stacks c.mode) k).1)
       (λ m e. rw e)
 
-  matrix_follows : (s : List ℕ) → Follows (calls.matrix k) c s new.number (noted new.number (put_stacks (put_stack c.mode new.stack c.stacks) c)) s
+  matrix_follows : (s : List ℕ) → Follows (calls.matrix k) c s new.number (noted new.number (put_stacks (put_stack c.mode new.after c.stacks) c)) s
   matrix_follows s =
       let f = follows old (h.stacks c.mode) k in
       record {
@@ -169,7 +190,7 @@ module _ (k : stack.MatrixCall) (c : Context) (h : Sound c) where
           error = slot_after (f.0 i) c.error;
         };
         sound = record {
-          stacks = put_all (λ m. stack.Sound) c.mode c.stacks new.stack f.2 (λ m e. h.stacks m);
+          stacks = put_all (λ m. stack.Sound) c.mode c.stacks new.after f.2 (λ m e. h.stacks m);
           buffers = h.buffers;
           client_unit_in = h.client_unit_in;
           active_unit_in = h.active_unit_in;
@@ -180,15 +201,6 @@ module _ (k : stack.MatrixCall) (c : Context) (h : Sound c) where
         refusal = λ q.
             (inl (ap (λ t. noted new.number (put_stacks t c)) (ap (λ x. put_stack c.mode x c.stacks) (stack_stays k old q) ∙ put_same c.mode c.stacks)), refl);
       }
-
--- push and pop, on the stack of the mode in force
-pub stack_does : (k : stack.MatrixCall) (c : Context) (m : MatrixMode) (a : StackAnswer) → Sound c → c.mode ≡ m → a ≡ stack.stack_answer k (stack_at m c.stacks)
-    → Does (calls.matrix k) c a.number (noted a.number (put_stacks (put_stack m a.stack c.stacks) c))
-stack_does k c m a h e q =
-    does (calls.matrix k) c refl _ _ h
-    (subst (λ (x : MatrixMode × StackAnswer). (s : List ℕ)
-    → Follows (calls.matrix k) c s x.1.number (noted x.1.number (put_stacks (put_stack x.0 x.1.stack c.stacks) c)) s)
-    (λ i. (e i, (ap (λ x. stack.stack_answer k (stack_at x c.stacks)) e ∙ sym q) i)) (matrix_follows k c h))
 
 module _ (u : stack.MatrixUpdate) (c : Context) where
   abbrev in_force : MatrixStack
@@ -209,10 +221,10 @@ module _ (u : stack.MatrixUpdate) (c : Context) where
   current_at_law MatrixMode.Projection t = refl
   current_at_law MatrixMode.Texture t = refl
 
-  abbrev answered : StackAnswer → Reply
-  answered a = reply a.number (noted a.number (put_stacks (put_stack c.mode a.stack c.stacks) c))
+  abbrev replied : Answer MatrixStack → Reply
+  replied a = reply a.number (noted a.number (put_stacks (put_stack c.mode a.after c.stacks) c))
 
-  update_settled : (r out : Reply) → Settled c r out → (Sound c → r ≡ answered (stack.stack_answer (stack.update u) in_force))
+  update_settled : (r out : Reply) → Settled c r out → (Sound c → r ≡ replied (stack.stack_answer (stack.update u) in_force))
       → Does (calls.matrix (stack.update u)) c out.number out.context
   update_settled r out g e =
       settled_does (calls.matrix (stack.update u)) c refl _ out (record { sound = λ h. g.sound h ∙ e h; unsound = g.unsound }) (matrix_follows (stack.update u) c)
@@ -225,7 +237,7 @@ module _ (u : stack.MatrixUpdate) (c : Context) where
       ap (λ (t : Stacks). reply 0 (noted 0 (put_stacks t c)))
       (ap (λ x. put_currents x c.stacks) e ∙ sym (put_current_law c.mode c.stacks (stack.updated u (current_at c.mode kept)))
       ∙ ap (λ (x : List Float). put_stack c.mode (with_current (record { entries = stack.updated u x }) in_force) c.stacks) (sym (current_at_law c.mode c.stacks)))
-      ∙ sym (ap answered (is_two in_force (h.stacks c.mode) (stack.update u)
+      ∙ sym (ap replied (is_two in_force (h.stacks c.mode) (stack.update u)
       ∙ ap (λ (n : ℕ). cond (eqb n 0) (stack.stack_answered 0 (stack.changed (stack.update u) in_force)) (stack.stack_answered n in_force)) z))
       )
 
@@ -250,99 +262,140 @@ module _ (u : stack.MatrixUpdate) (c : Context) where
       update_settled _ out g (λ h.
       ap (λ (x : Currents). reply n (noted n (put_stacks (put_currents x c.stacks) c))) e
       ∙ ap (λ (t : Stacks). reply n (noted n (put_stacks t c))) (sym (put_same c.mode c.stacks))
-      ∙ sym (ap answered (is_two in_force (h.stacks c.mode) (stack.update u)
+      ∙ sym (ap replied (is_two in_force (h.stacks c.mode) (stack.update u)
       ∙ ap (λ (x : ℕ). cond (eqb x 0) (stack.stack_answered 0 (stack.changed (stack.update u) in_force)) (stack.stack_answered x in_force)) (sym z)
       ∙ ap (λ b. cond b (stack.stack_answered 0 (stack.changed (stack.update u) in_force)) (stack.stack_answered n in_force)) (ne_eqb n 0 q)))
       )
 
--- ---- mode calls
+  -- the same where a check of the factor comes first
+  pub checked_does : (b : List Float) → ((x : List Float) → product x b ≡ stack.updated u x)
+      → (r : Result Unit Refusal) {a : List Float} {m : Result (List Float) Refusal} {out : Reply}
+      → number_in r ≡ stack.update_number u → a ≡ b → m ≡ result_and r (Ok a) → Settled c (currents_reply (multiplied m c) c) out
+      → Does (calls.matrix (stack.update u)) c out.number out.context
+  checked_does b f (Ok x) {out = out} z d e g =
+      product_does b f (sym z) refl d refl (subst (λ (x : Result (List Float) Refusal). Settled c (currents_reply (multiplied x c) c) out) e g)
+  checked_does b f (Err r) {out = out} z d e g =
+      update_refused (refusal_number r) kept out z (refused r) refl
+      (subst (λ (x : Result (List Float) Refusal). Settled c (currents_reply (multiplied x c) c) out) e g)
 
-module _ (code : ℕ) (c : Context) (h : Sound c) where
-  pub mode_known : (m : MatrixMode) → some m ≡ lookup matrix_modes code → Does (calls.mode code) c 0 (put_mode m c)
-  mode_known m e =
-      does (calls.mode code) c refl 0 (put_mode m c) h (λ s. record {
-        number = rw (sym e);
-        state = rw (sym e);
+-- ---- calls that change one part of the context
+
+-- one stack of a context replaced
+abbrev pub put_stack_in : MatrixMode → MatrixStack → Context → Context
+put_stack_in m t c = put_stacks (put_stack m t c.stacks) c
+
+-- what a call makes of a sound context, where it makes of one part what the rules say, and leaves the others
+changed_part : {A : Type 0} (part : Context → A) (put : A → Context → Context) (new : Answer A) {c : Context} {out : Reply} {Call : Result Unit Refusal → Context → Type 0}
+    → Changed Call c out → ((done : Result Unit Refusal) (after : Context) → Call done after → (answered done (part after) ≡ new) × (after ≡ put (part after) c))
+    → Settled c (reply new.number (noted new.number (put new.after c))) out
+changed_part {A} part put made {c = c} g f =
+    record {
+      sound = λ h.
+          let x = g.sound h in
+          let kept = f x.0 x.1 x.2 in
+          x.3 ∙ ap (λ y. reply (number_in x.0) (noted (number_in x.0) y)) kept.1
+          ∙ ap (λ (y : Answer A). reply y.number (noted y.number (put y.after c))) kept.0;
+      unsound = g.unsound;
+    }
+
+module _ {c : Context} {out : Reply} {Call : Result Unit Refusal → Context → Type 0} (g : Changed Call c out) where
+  -- mode calls
+  pub mode_does : (code : ℕ)
+      → ((done : Result Unit Refusal) (after : Context) → Call done after
+      → (answered done after.mode ≡ answer (known_number (lookup matrix_modes code)) (mode_after code c.mode)) × (after ≡ put_mode after.mode c))
+      → Does (calls.mode code) c out.number out.context
+  mode_does code f =
+      settled_does (calls.mode code) c refl _ out (changed_part (λ x. x.mode) put_mode (new (lookup matrix_modes code)) g f)
+      (λ h s. record {
+        number = refl;
+        state = refl;
         sound = record { stacks = h.stacks; buffers = h.buffers; client_unit_in = h.client_unit_in; active_unit_in = h.active_unit_in };
         stacks = refl;
         slots = λ _. refl;
         free = free_same;
-        refusal = λ q. absurd (q refl);
+        refusal = λ q. (inl (stays (lookup matrix_modes code) q), refl);
       })
+    where
+      new : Option MatrixMode → Answer MatrixMode
+      new m = answer (known_number m) (get_or m c.mode)
 
-  pub mode_unknown : none ≡ lookup matrix_modes code → Does (calls.mode code) c 0x0500 (noted 0x0500 c)
-  mode_unknown e =
-      does (calls.mode code) c refl 0x0500 (noted 0x0500 c) h (λ s. record {
-        number = rw (sym e);
-        state = rw (sym e);
+      stays : (m : Option MatrixMode) → ((new m).number ≡ 0 → ⊥) → noted (new m).number (put_mode (new m).after c) ≡ noted (new m).number c
+      stays (some m) q = absurd (q refl)
+      stays none q = refl
+
+  -- push and pop, on the stack of the mode in force
+  pub stack_does : (k : stack.MatrixCall)
+      → ((done : Result Unit Refusal) (after : Context) → Call done after
+      → (answered done (stack_at c.mode after.stacks) ≡ stack.stack_answer k (stack_at c.mode c.stacks)) × (after ≡ put_stack_in c.mode (stack_at c.mode after.stacks) c))
+      → Does (calls.matrix k) c out.number out.context
+  stack_does k f =
+      settled_does (calls.matrix k) c refl _ out
+      (changed_part (λ x. stack_at c.mode x.stacks) (put_stack_in c.mode) (stack.stack_answer k (stack_at c.mode c.stacks)) g f) (matrix_follows k c)
+
+  -- pointer, client state and client unit calls
+  pub arrays_do : (k : ArrayCall)
+      → ((done : Result Unit Refusal) (after : Context) → Call done after
+      → (answered done after.arrays ≡ array_step k c.buffers.array_buffer c.arrays) × (after ≡ put_arrays after.arrays c))
+      → Does (calls.object (calls.array k)) c out.number out.context
+  arrays_do k f =
+      settled_does (calls.object (calls.array k)) c refl _ out (changed_part (λ x. x.arrays) put_arrays new g f)
+      (λ h s. record {
+        number = refl;
+        state = refl;
+        sound = record {
+          stacks = h.stacks;
+          buffers = h.buffers;
+          client_unit_in = client_stays k c.buffers.array_buffer c.arrays h.client_unit_in;
+          active_unit_in = h.active_unit_in;
+        };
+        stacks = refl;
+        slots = λ _. refl;
+        free = free_same;
+        refusal = λ q. ⊎_elim (λ z. absurd (q z)) (λ z. (inl (ap (λ x. noted new.number (put_arrays x c)) z.1), refl)) (array_keeps k c.buffers.array_buffer c.arrays);
+      })
+    where
+      new : Answer Arrays
+      new = array_step k c.buffers.array_buffer c.arrays
+
+  -- calls on the current values
+  pub attributes_do : (k : AttributeCall)
+      → ((done : Result Unit Refusal) (after : Context) → Call done after
+      → (answered done after.attributes ≡ attribute_step k c.attributes) × (after ≡ put_attributes after.attributes c))
+      → Does (calls.attribute k) c out.number out.context
+  attributes_do k f =
+      settled_does (calls.attribute k) c refl _ out (changed_part (λ x. x.attributes) put_attributes new g f)
+      (λ h s. record {
+        number = refl;
+        state = refl;
         sound = record { stacks = h.stacks; buffers = h.buffers; client_unit_in = h.client_unit_in; active_unit_in = h.active_unit_in };
         stacks = refl;
         slots = λ _. refl;
         free = free_same;
-        refusal = λ q. (inl refl, refl);
+        refusal = λ q. ⊎_elim (λ z. absurd (q z)) (λ z. (inl (ap (λ x. noted new.number (put_attributes x c)) z.1), refl)) (attribute_keeps k c.attributes);
       })
+    where
+      new : Answer Attributes
+      new = attribute_step k c.attributes
 
--- ---- pointer, client state and client unit calls
-
-pub arrays_do : (k : ArrayCall) (c : Context) (a : ArraysAnswer) (out : Reply) → a ≡ array_step k c.buffers.array_buffer c.arrays
-    → Settled c (reply a.number (noted a.number (put_arrays a.arrays c))) out → Does (calls.object (calls.array k)) c out.number out.context
-arrays_do k c a out e g =
-    settled_does (calls.object (calls.array k)) c refl _ out (subst (λ x. Settled c (reply x.number (noted x.number (put_arrays x.arrays c))) out) e g)
-    (λ h s. record {
-      number = refl;
-      state = refl;
-      sound = record {
-        stacks = h.stacks;
-        buffers = h.buffers;
-        client_unit_in = client_stays k c.buffers.array_buffer c.arrays h.client_unit_in;
-        active_unit_in = h.active_unit_in;
-      };
-      stacks = refl;
-      slots = λ _. refl;
-      free = free_same;
-      refusal = λ q. ⊎_elim (λ z. absurd (q z)) (λ z. (inl (ap (λ x. noted new.number (put_arrays x c)) z.1), refl)) (array_keeps k c.buffers.array_buffer c.arrays);
-    })
-  where
-    new : ArraysAnswer
-    new = array_step k c.buffers.array_buffer c.arrays
-
--- ---- calls on the current values
-
-pub attributes_do : (k : AttributeCall) (c : Context) (a : AttributesAnswer) (out : Reply) → a ≡ attribute_step k c.attributes
-    → Settled c (reply a.number (noted a.number (put_attributes a.attributes c))) out → Does (calls.attribute k) c out.number out.context
-attributes_do k c a out e g =
-    settled_does (calls.attribute k) c refl _ out (subst (λ x. Settled c (reply x.number (noted x.number (put_attributes x.attributes c))) out) e g)
-    (λ h s. record {
-      number = refl;
-      state = refl;
-      sound = record { stacks = h.stacks; buffers = h.buffers; client_unit_in = h.client_unit_in; active_unit_in = h.active_unit_in };
-      stacks = refl;
-      slots = λ _. refl;
-      free = free_same;
-      refusal = λ q. ⊎_elim (λ z. absurd (q z)) (λ z. (inl (ap (λ x. noted new.number (put_attributes x c)) z.1), refl)) (attribute_keeps k c.attributes);
-    })
-  where
-    new : AttributesAnswer
-    new = attribute_step k c.attributes
-
--- ---- pipeline calls
-
-pub pipeline_does : (k : PipelineCall) (c : Context) (a : PipelineAnswer) (out : Reply) → a ≡ pipeline_step k c.pipeline
-    → Settled c (reply a.number (noted a.number (put_pipeline a.pipeline c))) out → Does (calls.pipeline k) c out.number out.context
-pipeline_does k c a out e g =
-    settled_does (calls.pipeline k) c refl _ out (subst (λ x. Settled c (reply x.number (noted x.number (put_pipeline x.pipeline c))) out) e g)
-    (λ h s. record {
-      number = refl;
-      state = refl;
-      sound = record { stacks = h.stacks; buffers = h.buffers; client_unit_in = h.client_unit_in; active_unit_in = active_stays k c.pipeline h.active_unit_in };
-      stacks = refl;
-      slots = λ _. refl;
-      free = free_same;
-      refusal = λ q. ⊎_elim (λ z. absurd (q z)) (λ z. (inl (ap (λ x. noted new.number (put_pipeline x c)) z.1), refl)) (refusal_keeps k c.pipeline);
-    })
-  where
-    new : PipelineAnswer
-    new = pipeline_step k c.pipeline
+  -- pipeline calls
+  pub pipeline_does : (k : PipelineCall)
+      → ((done : Result Unit Refusal) (after : Context) → Call done after
+      → (answered done after.pipeline ≡ pipeline_step k c.pipeline) × (after ≡ put_pipeline after.pipeline c))
+      → Does (calls.pipeline k) c out.number out.context
+  pipeline_does k f =
+      settled_does (calls.pipeline k) c refl _ out (changed_part (λ x. x.pipeline) put_pipeline new g f)
+      (λ h s. record {
+        number = refl;
+        state = refl;
+        sound = record { stacks = h.stacks; buffers = h.buffers; client_unit_in = h.client_unit_in; active_unit_in = active_stays k c.pipeline h.active_unit_in };
+        stacks = refl;
+        slots = λ _. refl;
+        free = free_same;
+        refusal = λ q. ⊎_elim (λ z. absurd (q z)) (λ z. (inl (ap (λ x. noted new.number (put_pipeline x c)) z.1), refl)) (refusal_keeps k c.pipeline);
+      })
+    where
+      new : Answer Pipeline
+      new = pipeline_step k c.pipeline
 
 -- ---- take_error
 
@@ -379,22 +432,22 @@ refused_same : (k : BufferCall) (o : buffer.Objects) → ((n : ℕ) → buffer.a
 unfolding buffer.gen_answer buffer.bind_answer
 refused_same (gen_buffers n) o below e q = go (ltb 16 (buffer.live_names o + n)) (ltb 4294967295 (o.next + n)) q
   where
-    answered : (x y : Bool) → buffer.Answer
-    answered x y = cond x (buffer.answer 4 o) (cond y (buffer.answer 5 o) (buffer.answer 0 (buffer.gen_names n o)))
+    with_answer : (x y : Bool) → Answer buffer.Objects
+    with_answer x y = cond x (answer 4 o) (cond y (answer 5 o) (answer 0 (buffer.gen_names n o)))
 
-    go : (x y : Bool) → ((answered x y).number ≡ 0 → ⊥) → ((answered x y).after ≡ o) ⊎ ((false ≡ true) × ((answered x y).number ≡ 0x0500))
+    go : (x y : Bool) → ((with_answer x y).number ≡ 0 → ⊥) → ((with_answer x y).after ≡ o) ⊎ ((false ≡ true) × ((with_answer x y).number ≡ 0x0500))
     go true y q = inl refl
     go false true q = inl refl
     go false false q = absurd (q refl)
 refused_same (bind_buffer target name) o below e q = go (leb 4294967295 name) (not (buffer.room_for o name)) (eqb target 0x8892) (eqb target 0x8893) q
   where
-    answered : (w x y z : Bool) → buffer.Answer
-    answered w x y z =
-        cond w (buffer.answer 5 o) (cond x (buffer.answer 4 o) (cond y (buffer.answer 0 (buffer.bind_array (buffer.named o name) name))
-        (cond z (buffer.answer 0 (buffer.bind_element (buffer.named o name) name)) (buffer.answer 0x0500 (buffer.named o name)))))
+    with_answer : (w x y z : Bool) → Answer buffer.Objects
+    with_answer w x y z =
+        cond w (answer 5 o) (cond x (answer 4 o) (cond y (answer 0 (buffer.bind_array (buffer.named o name) name))
+        (cond z (answer 0 (buffer.bind_element (buffer.named o name) name)) (answer 0x0500 (buffer.named o name)))))
 
-    go : (w x y z : Bool) → ((answered w x y z).number ≡ 0 → ⊥)
-        → ((answered w x y z).after ≡ o) ⊎ (((not (eqb name 0) && buffer.absent (o.contents name)) ≡ true) × ((answered w x y z).number ≡ 0x0500))
+    go : (w x y z : Bool) → ((with_answer w x y z).number ≡ 0 → ⊥)
+        → ((with_answer w x y z).after ≡ o) ⊎ (((not (eqb name 0) && buffer.absent (o.contents name)) ≡ true) × ((with_answer w x y z).number ≡ 0x0500))
     go true x y z q = inl refl
     go false true y z q = inl refl
     go false false true z q = absurd (q refl)
@@ -406,7 +459,7 @@ refused_same (buffer_sub_data target offset bytes) o below e q = never true refl
 
 module _ (k : BufferCall) (c : Context) (n : ℕ) (b : Buffers) where
   -- an answer of the buffers is the context's
-  buffer_follows : (s s' : List ℕ) → Sound c → buffer.answer n (buffer.objects b s') ≡ buffer_answer k (buffer.objects c.buffers s) → buffer.Sound b
+  buffer_follows : (s s' : List ℕ) → Sound c → answer n (buffer.objects b s') ≡ buffer_answer k (buffer.objects c.buffers s) → buffer.Sound b
       → buffer.FreeSlots c.buffers.slots b.slots → ((n ≡ 0 → ⊥) → RefusalKeeps (calls.object (calls.buffer k)) n c s (noted n (put_buffers b c)) × (s' ≡ s))
       → Follows (calls.object (calls.buffer k)) c s n (noted n (put_buffers b c)) s'
   buffer_follows s s' h e sound free kept =
@@ -440,7 +493,7 @@ module _ (k : BufferCall) (c : Context) (n : ℕ) (b : Buffers) where
         record {
           invalid = λ q. let u = a.unsound (λ p. q (record { sound = whole p; store = λ t. never (is_upload k) t e })) in (u.0, unchanged u.0 u.1, refl);
           follows = λ v.
-              let number = ap (λ (x : buffer.Answer). x.number) (a.ruled v.sound.buffers s) in
+              let number = ap (λ (x : Answer buffer.Objects). x.number) (a.ruled v.sound.buffers s) in
               buffer_follows s s v.sound (a.ruled v.sound.buffers s) (a.kept v.sound.buffers) a.free (λ q. (
                 ⊎_elim
                     (λ same. inl (ap (λ x. noted n (put_buffers x c)) (a.stays q s same)))

@@ -135,17 +135,17 @@ unchanged take_error c = refl
 unchanged (draw d) c = refl
 
 -- an update changes the current matrix alone
-update_current : (u : MatrixUpdate) (s : MatrixStack) → with_current (stack_answer (update u) s).stack.current s ≡ (stack_answer (update u) s).stack
+update_current : (u : MatrixUpdate) (s : MatrixStack) → with_current (stack_answer (update u) s).after.current s ≡ (stack_answer (update u) s).after
 unfolding stack_answer
 update_current u s = go (ltb limit s.depth) (eqb (update_number u) 0)
   where
     go : (b d : Bool)
-        → let a = cond b (stack_answered 1 s) (cond d (stack_answered 0 (changed (update u) s)) (stack_answered (update_number u) s)) in with_current a.stack.current s ≡ a.stack
+        → let a = cond b (stack_answered 1 s) (cond d (stack_answered 0 (changed (update u) s)) (stack_answered (update_number u) s)) in with_current a.after.current s ≡ a.after
     go true d = refl
     go false true = refl
     go false false = refl
 
-update_currents : (u : MatrixUpdate) (m : MatrixMode) (t : Stacks) → let t1 = put_stack m (stack_answer (update u) (stack_at m t)).stack t in put_currents (currents_of t1) t ≡ t1
+update_currents : (u : MatrixUpdate) (m : MatrixMode) (t : Stacks) → let t1 = put_stack m (stack_answer (update u) (stack_at m t)).after t in put_currents (currents_of t1) t ≡ t1
 update_currents u MatrixMode.Modelview t = ap (λ (x : MatrixStack). put_stack MatrixMode.Modelview x t) (update_current u t.modelview)
 update_currents u MatrixMode.Projection t = ap (λ (x : MatrixStack). put_stack MatrixMode.Projection x t) (update_current u t.projection)
 update_currents u MatrixMode.Texture t = ap (λ (x : MatrixStack). put_stack MatrixMode.Texture x t) (update_current u t.texture)

@@ -8,8 +8,7 @@ use native.Mathlib.Omega.{arith}
 use lib.Ieee.{Float}
 use lib.ListN.{length, length-take, length-drop}
 use Rattle.vertex.specs.Scene.{DrawCall}
-use Rattle.draw.specs.Draw.{Drawing, Draws}
-use Rattle.draw.specs.declared.Drawn.{Drawn}
+use Rattle.draw.specs.Draw.{Drawing, Drawn, Draws}
 use Rattle.buffers.specs.Objects.{slot_count, store_bytes, absent, bytes_of, len_at, slot_of, contents_of, gen_first}
 use Rattle.buffers.specs.declared.Slot.{Slot}
 use Rattle.buffers.specs.declared.Buffers.{Buffers}

@@ -5,8 +5,7 @@ use Rattle.stack.specs.declared.MatrixStack.{MatrixStack}
 use Rattle.buffers.specs.Objects.{store_bytes, FreeSlots}
 use Rattle.buffers.specs.declared.Buffers.{Buffers}
 use Rattle.vertex.specs.Scene.{Source, DrawCall}
-use Rattle.draw.specs.Draw.{Draws}
-use Rattle.draw.specs.declared.Drawn.{Drawn}
+use Rattle.draw.specs.Draw.{Drawn, Draws}
 use Rattle.context.specs.declared.MatrixMode.{MatrixMode}
 use Rattle.context.specs.declared.Stacks.{Stacks}
 use Rattle.context.specs.declared.Context.{Context}
@@ -41,7 +40,7 @@ pub record Valid (call : Call) (c : Context) (s : List ℕ) : Type 0 where
 
 -- the stacks after a call, every place of them
 abbrev pub stacks_after : Call → Context → Stacks
-stacks_after (matrix k) c = put_stack c.mode (stack_answer k (stack_at c.mode c.stacks)).stack c.stacks
+stacks_after (matrix k) c = put_stack c.mode (stack_answer k (stack_at c.mode c.stacks)).after c.stacks
 stacks_after (mode code) c = c.stacks
 stacks_after (object k) c = c.stacks
 stacks_after (attribute k) c = c.stacks

@@ -1,6 +1,7 @@
 -- For the code: what contracts of inner functions of crate context say. Nothing here is needed to read what an entry promises.
-use Rattle.std.specs.Prelude.{List, ◌≡◌, ℕ, ◌<◌, Float}
-use Rattle.std.proofs.Math.Option.{Option, some, none}
+use Rattle.std.specs.Prelude.{List, ◌≡◌, ℕ, ◌<◌, Float, Result, Ok, Err}
+use Rattle.refusal.specs.declared.Refusal.{Refusal}
+use Rattle.refusal.specs.Refusals.{refusal_number, number_in}
 use Rattle.matrix.specs.Matrix.{product}
 use Rattle.stack.specs.Stack as stack
 use Rattle.stack.specs.declared.Matrix.{Matrix}
@@ -13,10 +14,10 @@ use Rattle.vertex.specs.declared.DrawInputs.{DrawInputs}
 use Rattle.context.specs.declared.MatrixMode.{MatrixMode}
 use Rattle.context.specs.declared.Stacks.{Stacks}
 use Rattle.context.specs.declared.Context.{Context}
-use Rattle.context.specs.declared.ModeChoice.{ModeChoice}
 use Rattle.context.specs.declared.Currents.{Currents}
 use Rattle.context.specs.declared.Reply.{Reply}
 use Rattle.context.specs.State.{stack_at, Sound}
+use Rattle.context.specs.Contract.{noted}
 
 -- a sound context but for its buffers
 pub record SoundApart (c : Context) : Type 0 where
@@ -41,14 +42,10 @@ put_attributes a c = record { mode = c.mode; stacks = c.stacks; buffers = c.buff
 abbrev pub put_pipeline : Pipeline → Context → Context
 put_pipeline p c = record { mode = c.mode; stacks = c.stacks; buffers = c.buffers; arrays = c.arrays; attributes = c.attributes; pipeline = p; error = c.error }
 
--- ---- replies and modes
+-- ---- replies, and the current matrices
 
 abbrev pub reply : ℕ → Context → Reply
 reply n c = record { number = n; context = c }
-
-abbrev pub mode_of : ModeChoice → Option MatrixMode
-mode_of (ModeChoice.Known m) = some m
-mode_of ModeChoice.Unknown = none
 
 -- the current matrices alone: that of a mode, one replaced, those of the stacks, and the stacks with all three replaced
 abbrev pub current_at : MatrixMode → Currents → List Float
@@ -74,6 +71,24 @@ put_currents m t =
       projection = with_current m.projection t.projection;
       texture = with_current m.texture t.texture;
     }
+
+-- with the matrix of the mode in force replaced, and multiplied on the right where no refusal stands in place of the factor
+abbrev pub loaded : List Float → Context → Currents
+loaded e c = put_current c.mode e (currents_of c.stacks)
+
+abbrev pub multiplied : Result (List Float) Refusal → Context → Result Currents Refusal
+multiplied (Ok m) c = Ok (loaded (product (current_at c.mode (currents_of c.stacks)) m) c)
+multiplied (Err e) c = Err e
+
+-- the reply of a sound context to a call that updates a matrix, by the matrices that the code has made for it
+abbrev pub currents_reply : Result Currents Refusal → Context → Reply
+currents_reply (Ok m) c = reply 0 (noted 0 (put_stacks (put_currents m c.stacks) c))
+currents_reply (Err e) c = reply (refusal_number e) (noted (refusal_number e) c)
+
+-- a sound context replies what a call makes of it, with its number noted, and an unsound one 1
+pub record Changed (Call : Result Unit Refusal → Context → Type 0) (c : Context) (out : Reply) : Type 0 where
+  pub sound : Sound c → (done : Result Unit Refusal) × (after : Context) × Call done after × (out ≡ reply (number_in done) (noted (number_in done) after))
+  pub unsound : (Sound c → ⊥) → out ≡ reply 1 c
 
 -- a sound context replies r, an unsound one 1
 pub record Settled (c : Context) (r : Reply) (out : Reply) : Type 0 where

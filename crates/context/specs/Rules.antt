@@ -3,6 +3,7 @@ use Rattle.std.specs.Prelude.{Bool, true, false, not, cond, ◌&&◌, List, [], 
 use Rattle.std.proofs.Math.Option.{Option, some, none, get_or}
 use Rattle.number.specs.Tables.{Row, ◌names◌, lookup}
 use Rattle.stack.specs.Stack.{StackState, stack_number, stack_step}
+use Rattle.refusal.specs.Refusals.{Answer}
 use Rattle.buffers.specs.Objects as objects
 use Rattle.arrays.specs.Arrays.{array_step}
 use Rattle.arrays.specs.Attributes.{attribute_step}
@@ -41,6 +42,12 @@ with_error e s = record { mode = s.mode; stacks = s.stacks; objects = s.objects;
 abbrev pub matrix_modes : List (Row MatrixMode)
 matrix_modes = 0x1700 names MatrixMode.Modelview ∷ 0x1701 names MatrixMode.Projection ∷ 0x1702 names MatrixMode.Texture ∷ []
 
+-- the number of a mode
+abbrev pub mode_code : MatrixMode → ℕ
+mode_code MatrixMode.Modelview = 0x1700
+mode_code MatrixMode.Projection = 0x1701
+mode_code MatrixMode.Texture = 0x1702
+
 -- an unknown enumerant is refused, and the mode in force stays
 abbrev pub known_number : {A : Type 0} → Option A → ℕ
 known_number (some a) = 0
@@ -62,7 +69,7 @@ same_mode MatrixMode.Texture MatrixMode.Texture = true
 
 -- ---- buffer, pointer and client calls
 
-abbrev pub buffer_answer : BufferCall → objects.Objects → objects.Answer
+abbrev pub buffer_answer : BufferCall → objects.Objects → Answer objects.Objects
 buffer_answer (gen_buffers n) o = objects.gen_answer o n
 buffer_answer (bind_buffer target name) o = objects.bind_answer o target name
 buffer_answer (delete_buffers ns) o = objects.delete_answer o ns
@@ -85,7 +92,7 @@ object_number (array k) o = (array_step k o.buffers.array o.arrays).number
 -- a buffer call leaves the arrays alone: a deleted name stays in an array's buffer field
 abbrev pub object_step : ObjectCall → ObjectState → ObjectState
 object_step (buffer k) o = record { buffers = (buffer_answer k o.buffers).after; arrays = o.arrays }
-object_step (array k) o = record { buffers = o.buffers; arrays = (array_step k o.buffers.array o.arrays).arrays }
+object_step (array k) o = record { buffers = o.buffers; arrays = (array_step k o.buffers.array o.arrays).after }
 
 -- ---- draws
 
@@ -123,8 +130,8 @@ abbrev pub effect : Call → State → State
 effect (matrix k) s = with_stacks (λ m. cond (same_mode m s.mode) (stack_step k (s.stacks m)) (s.stacks m)) s
 effect (mode code) s = with_mode (mode_after code s.mode) s
 effect (object k) s = with_objects (object_step k s.objects) s
-effect (attribute k) s = with_attributes (attribute_step k s.attributes).attributes s
-effect (pipeline k) s = with_pipeline (pipeline_step k s.pipeline).pipeline s
+effect (attribute k) s = with_attributes (attribute_step k s.attributes).after s
+effect (pipeline k) s = with_pipeline (pipeline_step k s.pipeline).after s
 effect take_error s = with_error 0 s
 effect (draw d) s = s
 

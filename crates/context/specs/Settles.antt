@@ -3,7 +3,7 @@
 use Rattle.std.specs.Prelude.{true, false, List, ◌≡◌, ℕ, ◌<◌, length, Float}
 use Rattle.buffers.specs.Objects.{slot_count, store_bytes, name_at, len_at, slot_of, gen_first}
 use Rattle.vertex.specs.Scene.{DrawCall}
-use Rattle.draw.specs.declared.Drawn.{Drawn}
+use Rattle.draw.specs.Draw.{Drawn}
 use Rattle.context.specs.declared.Context.{Context}
 use Rattle.context.specs.State.{state_of}
 use Rattle.context.specs.Calls.{gen_buffers, buffer, of_buffers, Call, object, take_error}

@@ -1,32 +1,61 @@
-// The context: all state but the bytes of the buffers, whether it is sound, and how a part that a call has changed is put back.
+// The context: all state but the bytes of the buffers, whether it is sound, and what a call answers once it has changed a part.
 #![tactic(auto)]
 
-ghost use Rattle.std.specs.Prelude.{◌≡◌, ◌<◌};
+ghost use Rattle.std.specs.Fn.{FnOnceReturnsAtMut};
+ghost use Rattle.std.specs.Prelude.{◌≡◌, ◌<◌, Ok};
 ghost use Rattle.number.specs.Decides.{Decides};
-ghost use Rattle.number.specs.Tables.{lookup};
+ghost use Rattle.refusal.specs.Refusals.{number_in};
+ghost use Rattle.refusal.specs.Enumerants.{Decodes};
 ghost use Rattle.matrix.specs.Matrix.{product};
 ghost use Rattle.stack.specs.Stack as stack;
 ghost use Rattle.buffers.specs.Objects.{store_bytes};
-ghost use Rattle.arrays.specs.Arrays.{unit_count};
+ghost use Rattle.draw.specs.Draw.{drawn_from};
 ghost use Rattle.context.specs.State.{stack_at, Sound, Fresh};
-ghost use Rattle.context.specs.Rules.{matrix_modes, slot_after};
-ghost use Rattle.context.specs.Contract.{put_buffers, noted, draw_reply};
-ghost use Rattle.context.specs.ContractCode.{SoundApart, current_at, put_current, currents_of, put_currents, put_stacks, put_arrays, put_attributes, put_pipeline};
-ghost use Rattle.context.specs.ContractCode.{mode_of, reply, Settled, inputs_for};
+ghost use Rattle.context.specs.Rules.{matrix_modes, mode_code, slot_after};
+ghost use Rattle.context.specs.Contract.{noted, draw_reply};
+ghost use Rattle.context.specs.ContractCode.{SoundApart, current_at, put_current, currents_of, put_currents, currents_reply, loaded, multiplied};
+ghost use Rattle.context.specs.ContractCode.{reply, Changed, Settled, inputs_for};
 
-use arrays::{Arrays, ArraysAnswer, Attributes, AttributesAnswer, UNIT_COUNT};
-use buffers::{Answered, Buffers, INVALID, STORE_BYTES};
-use draw::Drawn;
-use pipeline::{Pipeline, PipelineAnswer};
+use arrays::{Arrays, Attributes, UNIT_COUNT};
+use buffers::{Buffers, STORE_BYTES};
+use pipeline::Pipeline;
+use refusal::{Refusal, UnknownEnum};
 use stack::{Matrix, MatrixStack};
 use vertex::DrawInputs;
 
 // The stack that matrix calls go to.
-#[derive(Clone, Copy)]
+#[derive(Clone, Copy, Debug, PartialEq, Eq)]
 pub enum MatrixMode {
     Modelview,
     Projection,
     Texture,
+}
+
+impl TryFrom<u32> for MatrixMode {
+    type Error = UnknownEnum;
+
+    ghost try_from_gives = { λ code r. Decodes matrix_modes code r };
+
+    fn try_from(code: u32) -> Result<Self, UnknownEnum> {
+        match code {
+            0x1700 => Ok(MatrixMode::Modelview),
+            0x1701 => Ok(MatrixMode::Projection),
+            0x1702 => Ok(MatrixMode::Texture),
+            _ => Err(UnknownEnum),
+        }
+    }
+}
+
+impl From<MatrixMode> for u32 {
+    ghost from_gives = { λ mode code. code ≡ mode_code mode };
+
+    fn from(mode: MatrixMode) -> u32 {
+        match mode {
+            MatrixMode::Modelview => 0x1700,
+            MatrixMode::Projection => 0x1701,
+            MatrixMode::Texture => 0x1702,
+        }
+    }
 }
 
 #[repr(C)]
@@ -84,54 +113,11 @@ pub struct DrawReply {
 pub fn slot_after(number: u32, slot: u32) -> u32
     ensures { result ≡ slot_after number slot }
 {
-    if number < 0x0500 {
-        return slot;
+    if number >= 0x0500 && slot == 0 {
+        number
+    } else {
+        slot
     }
-    if slot == 0 {
-        return number;
-    }
-    slot
-}
-
-// The mode that a number stands for, or none.
-#[derive(Clone, Copy)]
-pub enum ModeChoice {
-    Known(MatrixMode),
-    Unknown,
-}
-
-pub fn matrix_mode(code: u32) -> ModeChoice
-    ensures { mode_of result ≡ lookup matrix_modes code }
-{
-    match code {
-        0x1700 => ModeChoice::Known(MatrixMode::Modelview),
-        0x1701 => ModeChoice::Known(MatrixMode::Projection),
-        0x1702 => ModeChoice::Known(MatrixMode::Texture),
-        _ => ModeChoice::Unknown,
-    }
-}
-
-// Whether each stack is sound.
-fn stacks_sound(stacks: Stacks) -> bool
-    ensures { Decides ((m : MatrixMode) → stack.Sound (stack_at m stacks)) result }
-{
-    let modelview = stacks.modelview;
-    if !modelview.is_sound() {
-        return false;
-    }
-    let projection = stacks.projection;
-    if !projection.is_sound() {
-        return false;
-    }
-    let texture = stacks.texture;
-    texture.is_sound()
-}
-
-// Whether there is a texture unit of that number.
-fn is_unit(unit: u32) -> bool
-    ensures { Decides (unit < unit_count) result }
-{
-    (unit as usize) < UNIT_COUNT
 }
 
 // The current matrices of the three stacks: what a call that updates a matrix changes.
@@ -144,8 +130,8 @@ pub struct Currents {
 
 impl Currents {
     // The entries of the matrix of a mode.
-    pub fn entries(self, mode: MatrixMode) -> [f32; 16]
-        ensures { result ≡ current_at mode self }
+    pub fn entries(&self, mode: MatrixMode) -> [f32; 16]
+        ensures { result ≡ current_at mode self.now }
     {
         match mode {
             MatrixMode::Modelview => self.modelview.entries,
@@ -158,21 +144,20 @@ impl Currents {
     pub fn put(self, mode: MatrixMode, entries: [f32; 16]) -> Currents
         ensures { result ≡ put_current mode entries self }
     {
-        let m = Matrix { entries };
-        let mut out = self;
+        let matrix = Matrix { entries };
         match mode {
-            MatrixMode::Modelview => {
-                out.modelview = m;
-                return out;
-            }
-            MatrixMode::Projection => {
-                out.projection = m;
-                return out;
-            }
-            MatrixMode::Texture => {
-                out.texture = m;
-                return out;
-            }
+            MatrixMode::Modelview => Currents {
+                modelview: matrix,
+                ..self
+            },
+            MatrixMode::Projection => Currents {
+                projection: matrix,
+                ..self
+            },
+            MatrixMode::Texture => Currents {
+                texture: matrix,
+                ..self
+            },
         }
     }
 
@@ -185,15 +170,31 @@ impl Currents {
 }
 
 impl Stacks {
-    // The stacks with other current matrices.
-    pub fn with_currents(self, m: Currents) -> Stacks
-        ensures { result ≡ put_currents m self }
+    // Whether each stack is sound.
+    fn is_sound(&self) -> bool
+        ensures { Decides ((m : MatrixMode) → stack.Sound (stack_at m self.now)) result }
     {
-        let mut out = self;
-        stack::replace(&mut out.modelview.current.entries, m.modelview);
-        stack::replace(&mut out.projection.current.entries, m.projection);
-        stack::replace(&mut out.texture.current.entries, m.texture);
-        out
+        self.modelview.is_sound() && self.projection.is_sound() && self.texture.is_sound()
+    }
+
+    // The current matrices.
+    fn currents(&self) -> Currents
+        ensures { result ≡ currents_of self.now }
+    {
+        Currents {
+            modelview: self.modelview.current,
+            projection: self.projection.current,
+            texture: self.texture.current,
+        }
+    }
+
+    // Other current matrices.
+    pub fn set_currents(&mut self, m: Currents)
+        ensures { self.new ≡ put_currents m self.old }
+    {
+        stack::replace(&mut self.modelview.current.entries, m.modelview);
+        stack::replace(&mut self.projection.current.entries, m.projection);
+        stack::replace(&mut self.texture.current.entries, m.texture);
     }
 }
 
@@ -203,49 +204,42 @@ impl Context {
         ensures { Fresh result }
     {
         let stack = MatrixStack::new();
-        let stacks = Stacks {
-            modelview: stack,
-            projection: stack,
-            texture: stack,
-        };
-        let buffers = buffers::fresh_buffers();
-        let arrays = arrays::fresh_arrays();
-        let attributes = arrays::fresh_attributes();
-        let pipeline = pipeline::fresh_pipeline();
         Context {
             mode: MatrixMode::Modelview,
-            stacks,
-            buffers,
-            arrays,
-            attributes,
-            pipeline,
+            stacks: Stacks {
+                modelview: stack,
+                projection: stack,
+                texture: stack,
+            },
+            buffers: Buffers::new(),
+            arrays: Arrays::new(),
+            attributes: Attributes::new(),
+            pipeline: Pipeline::new(),
             error: 0,
         }
     }
 
     // Whether all but the buffers is sound: these are tested by the functions that take them.
-    pub fn is_sound_apart(self) -> bool
-        ensures { Decides (SoundApart self) result }
+    pub fn is_sound_apart(&self) -> bool
+        ensures { Decides (SoundApart self.now) result }
     {
-        if !is_unit(self.arrays.client_active_texture) {
-            return false;
-        }
-        if !is_unit(self.pipeline.active_texture) {
-            return false;
-        }
-        let stacks = self.stacks;
-        stacks_sound(stacks)
+        (self.arrays.client_active_texture as usize) < UNIT_COUNT
+            && (self.pipeline.active_texture as usize) < UNIT_COUNT
+            && self.stacks.is_sound()
     }
 
     // Whether the context is sound.
-    pub fn is_sound(self) -> bool
-        ensures { Decides (Sound self) result }
+    pub fn is_sound(&self) -> bool
+        ensures { Decides (Sound self.now) result }
     {
-        if !self.is_sound_apart() {
-            return false;
-        }
-        let buffers = self.buffers;
-        buffers::sound(buffers)
+        self.is_sound_apart() && self.buffers.is_sound()
+    }
+
+    // Whether the context is sound and the store has its length.
+    pub fn is_ready(&self, len: usize) -> bool
+        ensures { Decides (Sound self.now × (len ≡ store_bytes)) result }
+    {
+        len == STORE_BYTES && self.is_sound()
     }
 
     // The reply of a context that is not sound, or for a store of another length.
@@ -253,165 +247,112 @@ impl Context {
         ensures { result ≡ reply 1 self }
     {
         Reply {
-            number: INVALID,
+            number: u32::from(Refusal::Invalid),
             context: self,
         }
     }
 
-    // The current matrices.
-    pub fn currents(self) -> Currents
-        ensures { result ≡ currents_of self.stacks }
+    // The reply of a call that has changed its part of the context, or was refused.
+    pub fn answer(mut self, done: Result<(), Refusal>) -> Reply
+        ensures { result ≡ reply (number_in done) (noted (number_in done) self) }
     {
-        let stacks = self.stacks;
-        let modelview = stacks.modelview.current;
-        let projection = stacks.projection.current;
-        let texture = stacks.texture.current;
-        Currents {
-            modelview,
-            projection,
-            texture,
+        let number = refusal::number_of(done);
+        self.error = slot_after(number, self.error);
+        Reply {
+            number,
+            context: self,
         }
+    }
+
+    // The reply of a call that changes its part of a sound context, or refuses to.
+    pub fn change<F: FnOnce(&mut Context) -> Result<(), Refusal>>(mut self, call: F) -> Reply
+        requires { F.IsAlwaysCallable call }
+        ensures { Changed (FnOnceReturnsAtMut F.FnOnce call self) self result }
+    {
+        if !self.is_sound() {
+            return self.refuse();
+        }
+        let done = call(&mut self);
+        self.answer(done)
+    }
+
+    // The current matrices.
+    pub fn currents(&self) -> Currents
+        ensures { result ≡ currents_of self.now.stacks }
+    {
+        self.stacks.currents()
     }
 
     // The reply of a call that updates a matrix.
-    pub fn answer_currents(self, number: u32, m: Currents) -> Reply
-        ensures { Settled self (reply number (noted number (put_stacks (put_currents m self.stacks) self))) result }
+    pub fn answer_currents(mut self, m: Result<Currents, Refusal>) -> Reply
+        ensures { Settled self (currents_reply m self) result }
     {
         if !self.is_sound() {
             return self.refuse();
         }
-        let stacks = self.stacks.with_currents(m);
-        let error = slot_after(number, self.error);
-        let mut out = self;
-        out.stacks = stacks;
-        out.error = error;
-        Reply {
-            number,
-            context: out,
+        match m {
+            Ok(m) => {
+                self.stacks.set_currents(m);
+                self.answer(Ok(()))
+            }
+            Err(e) => self.answer(Err(e)),
         }
     }
 
-    // The reply of a pointer, client state or client unit call.
-    pub fn answer_arrays(self, a: ArraysAnswer) -> Reply
-        ensures { Settled self (reply a.number (noted a.number (put_arrays a.arrays self))) result }
+    // The reply of a call that replaces the current matrix of the mode in force.
+    pub fn load(self, entries: [f32; 16]) -> Reply
+        ensures { Settled self (currents_reply (Ok (loaded entries self)) self) result }
+    {
+        let currents = self.currents().put(self.mode, entries);
+        self.answer_currents(Ok(currents))
+    }
+
+    // The reply of a call that multiplies it on the right, or refuses to. It does by itself what `answer_currents` does: with a call of that in
+    // between a list of calls has no room on a stack of 64 KB.
+    pub fn multiply(mut self, m: Result<[f32; 16], Refusal>) -> Reply
+        ensures { Settled self (currents_reply (multiplied m self) self) result }
     {
         if !self.is_sound() {
             return self.refuse();
         }
-        let number = a.number;
-        let part = a.arrays;
-        let error = slot_after(number, self.error);
-        let mut out = self;
-        out.arrays = part;
-        out.error = error;
-        Reply {
-            number,
-            context: out,
+        match m {
+            Ok(m) => {
+                let currents = self.currents().multiply(self.mode, m);
+                self.stacks.set_currents(currents);
+                self.answer(Ok(()))
+            }
+            Err(e) => self.answer(Err(e)),
         }
-    }
-
-    // The reply of a call on the current values.
-    pub fn answer_attributes(self, a: AttributesAnswer) -> Reply
-        ensures { Settled self (reply a.number (noted a.number (put_attributes a.attributes self))) result }
-    {
-        if !self.is_sound() {
-            return self.refuse();
-        }
-        let number = a.number;
-        let part = a.attributes;
-        let error = slot_after(number, self.error);
-        let mut out = self;
-        out.attributes = part;
-        out.error = error;
-        Reply {
-            number,
-            context: out,
-        }
-    }
-
-    // The reply of a pipeline call.
-    pub fn answer_pipeline(self, a: PipelineAnswer) -> Reply
-        ensures { Settled self (reply a.number (noted a.number (put_pipeline a.pipeline self))) result }
-    {
-        if !self.is_sound() {
-            return self.refuse();
-        }
-        let number = a.number;
-        let part = a.pipeline;
-        let error = slot_after(number, self.error);
-        let mut out = self;
-        out.pipeline = part;
-        out.error = error;
-        Reply {
-            number,
-            context: out,
-        }
-    }
-
-    // The reply of a buffer call that the buffers have answered.
-    pub fn put_buffers(self, a: Answered) -> Reply
-        ensures { result ≡ reply a.number (noted a.number (put_buffers a.buffers self)) }
-    {
-        let number = a.number;
-        let part = a.buffers;
-        let error = slot_after(number, self.error);
-        let mut out = self;
-        out.buffers = part;
-        out.error = error;
-        Reply {
-            number,
-            context: out,
-        }
-    }
-
-    // Whether the context is sound and the store has its length.
-    pub fn is_ready(self, len: usize) -> bool
-        ensures { Decides (Sound self × (len ≡ store_bytes)) result }
-    {
-        if len != STORE_BYTES {
-            return false;
-        }
-        self.is_sound()
     }
 
     // What a draw's vertices are made from.
-    pub fn draw_inputs(self, base: u32, stages: u32) -> DrawInputs
-        ensures { result ≡ inputs_for self base stages }
+    pub fn draw_inputs(&self, base: u32, stages: u32) -> DrawInputs
+        ensures { result ≡ inputs_for self.now base stages }
     {
-        let stacks = self.stacks;
-        let view = stacks.modelview.current;
-        let lens = stacks.projection.current;
-        let coordinates = stacks.texture.current;
-        let modelview = view.entries;
-        let projection = lens.entries;
-        let texture = coordinates.entries;
-        let transform = matrix::multiply(projection, modelview);
-        let buffers = self.buffers;
-        let arrays = self.arrays;
-        let attributes = self.attributes;
+        let modelview = self.stacks.modelview.current.entries;
+        let projection = self.stacks.projection.current.entries;
         DrawInputs {
-            transform,
+            transform: matrix::multiply(projection, modelview),
             modelview,
-            texture,
-            buffers,
-            arrays,
-            attributes,
+            texture: self.stacks.texture.current.entries,
+            buffers: self.buffers,
+            arrays: self.arrays,
+            attributes: self.attributes,
             base,
             stages,
         }
     }
 
-    // The reply of a draw.
-    pub fn answer_draw(self, d: Drawn) -> DrawReply
-        ensures { result ≡ draw_reply d.number d.count (noted d.number self) }
+    // The reply of a draw, with the number of its triangles.
+    pub fn answer_draw(self, d: Result<usize, Refusal>) -> DrawReply
+        ensures { let r = drawn_from d in result ≡ draw_reply r.number r.count (noted r.number self) }
     {
-        let error = slot_after(d.number, self.error);
-        let mut out = self;
-        out.error = error;
+        let number = refusal::number_of(d);
+        let error = slot_after(number, self.error);
         DrawReply {
-            number: d.number,
-            count: d.count,
-            context: out,
+            number,
+            count: d.unwrap_or(0),
+            context: Context { error, ..self },
         }
     }
 }

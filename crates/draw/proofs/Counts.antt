@@ -1,7 +1,7 @@
 -- How many triangles a draw counts, by its number of indices. Assumes nothing.
 use mathlib.Core.Bool.{Bool, true, false, not, cond}
 use mathlib.Core.List.{List, []}
-use mathlib.Core.Path.{◌≡◌, refl, sym, ap, subst, ◌∙◌}
+use mathlib.Core.Path.{◌≡◌, refl, ap, subst, ◌∙◌}
 use Prim.Native.Nat.{ℕ, ◌+◌, ◌*◌, ◌<◌, ◌≤◌}
 use native.Mathlib.Omega.{arith}
 use borrow.Author.Tests.{ltb-true, ltb-false, eqb-true, eqb-false, not-true, not-false, ne_eqb}
@@ -14,7 +14,6 @@ use Rattle.vertex.specs.Index.{index_width, index_part, indices_in, indices_from
 use Rattle.vertex.specs.Questions.{position_at, fails, failing_place, has_vertices, list_number, part_number, elements_number, source_number, view_number, validation}
 use Rattle.vertex.proofs.Search.{first_real}
 use Rattle.vertex.proofs.IndexLists.{length_up_from, length_numbers}
-use Rattle.vertex.proofs.Sources.{part_there}
 use Rattle.corners.specs.Places.{triangle_count, primitive_of}
 use Rattle.assembly.specs.Triangles.{Triangle}
 use Rattle.draw.specs.Draw.{triangles_of, draw_in, Drawing}
@@ -38,6 +37,14 @@ modes_of s mode is e =
     real : ltb (failing_place s is) (length is) ≡ true → position_at s is (failing_place s is) ≡ 0 → ⊥
     real h = eqb-false _ _ (not-true _ (first_real (fails s is) 0 (length is) (omega (arith, ltb-true (failing_place s is) (length is) h))))
 
+-- the bytes of the indices are there where the questions about them pass
+part_there : (s : Scene) (element count ty pointer : ℕ) → elements_number s element count ty pointer ≡ 0
+    → part_number element (part_state (index_part s element count ty pointer)) ≡ 0
+unfolding elements_number
+part_there s element count ty pointer e =
+    let a = passed (eqb (index_width ty) 0) 0x0500 _ (λ _ k. absurd (omega arith)) e in
+    (passed (leb 18446744073709551616 (count * index_width ty)) 0x0501 _ (λ _ k. absurd (omega arith)) a.1).1
+
 indices_counted : (element w n : ℕ) (p : Part) → part_number element (part_state p) ≡ 0 → length (indices_in p w n) ≡ n
 indices_counted element w n (bytes bs) e = length_numbers w n bs
 indices_counted element w n no_buffer e = absurd (omega arith)
@@ -59,7 +66,7 @@ module _ (s : Scene) (element mode : ℕ) where
       (stored (eqb-true n 0 (not-false _ a.0)), λ h. modes_of s mode _ (some h a.1))
     where
       stored : elements_number s element count ty pointer ≡ 0 → length (indices_from s element (elements count ty pointer)) ≡ count
-      stored f = indices_counted element (index_width ty) count (index_part s element count ty pointer) (part_there s element count ty pointer (index_width ty) refl (sym f))
+      stored f = indices_counted element (index_width ty) count (index_part s element count ty pointer) (part_there s element count ty pointer f)
 
       some : 0 < count → cond (eqb count 0) 0 (list_number s mode (indices_from s element (elements count ty pointer))) ≡ 0
           → list_number s mode (indices_from s element (elements count ty pointer)) ≡ 0

@@ -14,8 +14,11 @@ use Rattle.vertex.specs.Questions.{list_number, validation}
 use Rattle.vertex.specs.declared.Vertex.{Vertex}
 use Rattle.corners.specs.Places.{triangle_count, primitive_of}
 use Rattle.assembly.specs.Triangles.{Triangle, vertex_at, triangles_to, words_of}
-use Rattle.draw.specs.Draw.{triangles_of, draw_answer, draw_in, Draws}
-use Rattle.draw.specs.declared.Drawn.{Drawn}
+use Rattle.draw.specs.Draw.{triangles_of, draw_answer, draw_in, Drawn, drawn_from, Draws}
+use Rattle.refusal.specs.Refusals.{refusal_number}
+use Rattle.refusal.specs.declared.Refusal.{Refusal}
+use Rattle.std.specs.Prelude.{Result, Ok, Err}
+use Rattle.std.specs.Result.{IsErrAnd}
 use Rattle.corners.specs.declared.Primitive.{Primitive}
 use Rattle.assembly.proofs.Triangles.{count_triangles, words_stored}
 
@@ -41,6 +44,30 @@ module _ (ts : List Triangle) (out : List Float) where
   pub drawn : (count : ℕ) (out' : List Float) → count ≡ length ts → 51 * length ts ≤ length out → out' ≡ sets out 0 (words_of ts)
       → Draws (draw_answer 0 (length out) ts) (record { number = 0; count = count }) out out'
   drawn count out' e h stored = rw (le-ltb _ _ h) (record { number = refl; count = e; output = stored ∙ words_stored ts out h })
+
+-- ---- what a `?` hands on
+
+pub positive : (e : Refusal) → refusal_number e ≡ 0 → ⊥
+positive Refusal.Invalid z = omega (arith, z)
+positive Refusal.GuestTooLong z = omega (arith, z)
+positive Refusal.UnknownStage z = omega (arith, z)
+positive Refusal.NoSlot z = omega (arith, z)
+positive Refusal.NoName z = omega (arith, z)
+positive Refusal.TooLarge z = omega (arith, z)
+positive Refusal.UnreadableIndices z = omega (arith, z)
+positive Refusal.NoVertices z = omega (arith, z)
+positive Refusal.NoPosition z = omega (arith, z)
+positive Refusal.NoTriangles z = omega (arith, z)
+positive Refusal.NoRoom z = omega (arith, z)
+positive Refusal.InvalidEnum z = omega (arith, z)
+positive Refusal.InvalidValue z = omega (arith, z)
+positive Refusal.InvalidOperation z = omega (arith, z)
+positive Refusal.StackOverflow z = omega (arith, z)
+positive Refusal.StackUnderflow z = omega (arith, z)
+
+pub handed_on : (r : Result ℕ Refusal) (e : Refusal) → IsErrAnd r (λ (x : Refusal). x ≡ e) → drawn_from r ≡ record { number = refusal_number e; count = 0 }
+handed_on (Ok n) e h = absurd h
+handed_on (Err x) e h = ap (λ (y : Refusal). record { number = refusal_number y; count = 0 }) h
 
 -- ---- from the parts of a draw to the draw
 

@@ -1,4 +1,4 @@
-// Drawing below the calls: the triangles in the output, the three draws.
+// Drawing below the calls: the triangles in the output, the three draws. A draw answers how many triangles it wrote, or why it is refused.
 #![tactic(auto)]
 
 ghost use Rattle.std.specs.Prelude.{◌≡◌, ℕ, ◌*◌, ◌<◌, ◌≤◌, length};
@@ -7,10 +7,11 @@ ghost use Rattle.vertex.specs.Scene.{Source};
 ghost use Rattle.vertex.specs.SceneCode.{scene_in, index_list};
 ghost use Rattle.vertex.specs.Questions.{list_number};
 ghost use Rattle.assembly.specs.Triangles.{vertex_at, triangles_to, words_of};
-ghost use Rattle.draw.specs.Draw.{triangles_of, draw_answer, draw_in, Draws};
+ghost use Rattle.draw.specs.Draw.{triangles_of, draw_answer, draw_in, drawn_from, Draws};
 
 use corners::Primitive;
-use vertex::{DrawInputs, Indices};
+use refusal::Refusal;
+use vertex::{DrawInputs, IndexList};
 
 // Writes the first `count` triangles.
 fn write_triangles<'a>(
@@ -18,25 +19,16 @@ fn write_triangles<'a>(
     store: &'a [u8],
     guest: &'a [u8],
     p: Primitive,
-    kind: Indices,
-    list: &[u32],
-    elements: &[u8],
+    list: IndexList<'a>,
     count: usize,
     out: &mut [f32],
 )
     requires { 51 * count ≤ length out.old }
     ensures { out.new
         ≡ sets out.old 0 (words_of (triangles_to (vertex_at (scene_in s store.now guest.now)
-        (index_list kind list.now elements.now)) p count)) }
+        (index_list list.entry)) p count)) }
 {
-    assembly::write_corners(s, store, guest, p, kind, list, elements, 3 * count, out);
-}
-
-// A draw's number, and how many triangles it wrote.
-#[derive(Clone, Copy)]
-pub struct Drawn {
-    pub number: u32,
-    pub count: usize,
+    assembly::write_corners(s, store, guest, p, list, 3 * count, out);
 }
 
 // Draws a list of indices.
@@ -45,30 +37,22 @@ fn draw_indices<'a>(
     store: &'a [u8],
     guest: &'a [u8],
     mode: u32,
-    kind: Indices,
-    list: &[u32],
-    elements: &[u8],
+    list: IndexList<'a>,
     out: &mut [f32],
-) -> Drawn
-    ensures { Draws (draw_answer (list_number (scene_in s store.now guest.now) mode (index_list kind list.now elements.now))
-        (length out.old) (triangles_of (scene_in s store.now guest.now) mode (index_list kind list.now elements.now)))
-        result out.old out.new }
+) -> Result<usize, Refusal>
+    ensures { Draws (draw_answer (list_number (scene_in s store.now guest.now) mode (index_list list.entry))
+        (length out.old) (triangles_of (scene_in s store.now guest.now) mode (index_list list.entry)))
+        (drawn_from result) out.old out.new }
 {
-    let number = assembly::validate(s, store, guest, mode, kind, list, elements);
-    if number != 0 {
-        return Drawn { number, count: 0 };
-    }
-    let p = corners::primitive_of(mode);
-    let n = vertex::index_count(kind, list, elements);
-    let count = corners::triangle_count(p, n);
+    assembly::validate(s, store, guest, mode, list)?;
+    let p = Primitive::of_mode(mode);
+    let n = list.len();
+    let count = p.triangle_count(n);
     if out.len() / 51 < count {
-        return Drawn {
-            number: 11,
-            count: 0,
-        };
+        return Err(Refusal::NoRoom);
     }
-    write_triangles(s, store, guest, p, kind, list, elements, count, out);
-    Drawn { number: 0, count }
+    write_triangles(s, store, guest, p, list, count, out);
+    Ok(count)
 }
 
 // Draws a borrowed list of indices.
@@ -79,17 +63,13 @@ pub fn draw_list<'a>(
     mode: u32,
     list: &[u32],
     out: &mut [f32],
-) -> Drawn
+) -> Result<usize, Refusal>
     ensures { (element : ℕ)
         → Draws (draw_in (scene_in s store.now guest.now) element mode (Source.list list.now) (length out.old))
-        result out.old out.new }
+        (drawn_from result) out.old out.new }
 {
-    let number = vertex::view_number(s.base, guest.len(), s.stages);
-    if number != 0 {
-        return Drawn { number, count: 0 };
-    }
-    let kind = Indices::List;
-    draw_indices(s, store, guest, mode, kind, list, store, out)
+    vertex::check_view(s.base, guest.len(), s.stages)?;
+    draw_indices(s, store, guest, mode, IndexList::List(list), out)
 }
 
 // Draws the indices from `first` on.
@@ -101,19 +81,14 @@ pub fn draw_range<'a>(
     first: u32,
     count: u32,
     out: &mut [f32],
-) -> Drawn
+) -> Result<usize, Refusal>
     ensures { (element : ℕ)
         → Draws (draw_in (scene_in s store.now guest.now) element mode (Source.range first count) (length out.old))
-        result out.old out.new }
+        (drawn_from result) out.old out.new }
 {
-    let number = vertex::view_number(s.base, guest.len(), s.stages);
-    if number != 0 {
-        return Drawn { number, count: 0 };
-    }
+    vertex::check_view(s.base, guest.len(), s.stages)?;
     let end = vertex::range_end(first, count);
-    let kind = Indices::Range(first, end);
-    let none: [u32; 1] = [0];
-    draw_indices(s, store, guest, mode, kind, &none, store, out)
+    draw_indices(s, store, guest, mode, IndexList::Range(first, end), out)
 }
 
 // Draws indices that lie in the element buffer, or in guest memory where none is bound.
@@ -127,39 +102,14 @@ pub fn draw_stored<'a>(
     ty: u32,
     pointer: u32,
     out: &mut [f32],
-) -> Drawn
+) -> Result<usize, Refusal>
     ensures { Draws (draw_in (scene_in s store.now guest.now) element mode (Source.elements count ty pointer) (length out.old))
-        result out.old out.new }
+        (drawn_from result) out.old out.new }
 {
-    let view = vertex::view_number(s.base, guest.len(), s.stages);
-    if view != 0 {
-        return Drawn {
-            number: view,
-            count: 0,
-        };
-    }
-    let number = vertex::stored_number(s, store, guest, element, count, ty, pointer);
-    if number != 0 {
-        return Drawn { number, count: 0 };
-    }
+    vertex::check_view(s.base, guest.len(), s.stages)?;
+    let list = vertex::stored_indices(s, store, guest, element, count, ty, pointer)?;
     if count == 0 {
-        return Drawn {
-            number: 0,
-            count: 0,
-        };
+        return Ok(0);
     }
-    let width = vertex::index_width(ty);
-    let buffers = s.buffers;
-    let bytes = fetch::part(
-        buffers,
-        store,
-        s.base,
-        guest,
-        element,
-        pointer,
-        (count as usize) * width,
-    );
-    let kind = vertex::kind_of(width);
-    let none: [u32; 1] = [0];
-    draw_indices(s, store, guest, mode, kind, &none, bytes, out)
+    draw_indices(s, store, guest, mode, list, out)
 }

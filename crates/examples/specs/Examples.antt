@@ -1,6 +1,6 @@
 -- The worked examples P1 to P10 of document 01 as one checked list: `bench_examples` is a proof of all ten. Each speaks of the definitions that the
 -- contracts cite.
-use Rattle.std.specs.Prelude.{true, false, List, [], ◌∷◌, ◌++◌, map, ◌≡◌, refl, ℕ, zero, suc, pos, get_or, replicate, Float}
+use Rattle.std.specs.Prelude.{true, false, List, [], ◌∷◌, ◌++◌, map, ◌≡◌, refl, ℕ, zero, suc, pos, get_or, replicate, Float, Ok, Err}
 use Rattle.std.proofs.Math.Option.{some}
 use Rattle.std.specs.Float.{binary32}
 use Rattle.std.specs.Float.Ieee.{of_bits, of_int, neg, add, sub, mul, div, lt}
@@ -12,7 +12,7 @@ use Rattle.stack.specs.declared.MatrixStack.{MatrixStack}
 use Rattle.fetch.specs.Decode.{component_bytes, vector_of}
 use Rattle.fetch.specs.Fetch.{part_of, address_of, fetched}
 use Rattle.fetch.specs.declared.ArrayPointer.{ArrayPointer}
-use Rattle.fetch.specs.declared.Fetched.{Fetched}
+use Rattle.fetch.specs.declared.FetchFailure.{FetchFailure}
 use Rattle.vertex.specs.Index.{up_from, range_count}
 use Rattle.corners.specs.Places.{triangle_count, corners_of}
 use Rattle.corners.specs.declared.Primitive.{Primitive}
@@ -27,7 +27,7 @@ seven = 7 ∷ 8 ∷ 9 ∷ 10 ∷ []
 -- the numbers that n pushes in a row answer
 abbrev pub push_numbers : ℕ → MatrixStack → List ℕ
 push_numbers zero s = []
-push_numbers (suc n) s = (stack_answer push s).number ∷ push_numbers n (stack_answer push s).stack
+push_numbers (suc n) s = (stack_answer push s).number ∷ push_numbers n (stack_answer push s).after
 
 abbrev pub f3 : Float
 f3 = of_bits binary32 0x4040_0000
@@ -59,8 +59,8 @@ pub record BenchExamples : Type 0 where
   -- translate(1,2,3) on (1,1,1,1): (2,3,4,1)
   pub P8 : transformed (translation f1 f2 f3) (f1 ∷ f1 ∷ f1 ∷ f1 ∷ []) ≡ f2 ∷ f3 ∷ f4 ∷ f1 ∷ []
   -- size 5 floats: 16 bytes fail, 20 pass
-  pub P9 : (fetched (λ n. some (replicate 16 0)) 0 [] five_floats 0 false ≡ Fetched.Unreadable)
-      × (fetched (λ n. some (replicate 20 0)) 0 [] five_floats 0 false ≡ Fetched.Components (vector_of 0x1406 5 false (replicate 20 0)))
+  pub P9 : (fetched (λ n. some (replicate 16 0)) 0 [] five_floats 0 false ≡ Err FetchFailure.Unreadable)
+      × (fetched (λ n. some (replicate 20 0)) 0 [] five_floats 0 false ≡ Ok (vector_of 0x1406 5 false (replicate 20 0)))
   -- first 4294967293, count 5: two indices
   pub P10 : up_from 4294967293 (range_count 4294967293 5) ≡ 4294967293 ∷ 4294967294 ∷ []
 

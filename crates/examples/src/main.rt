@@ -5,23 +5,11 @@
 
 use arrays::{COLOR_ARRAY, TEXTURE_COORD_ARRAY, TEXTURE0, VERTEX_ARRAY};
 use buffers::STORE_BYTES;
-use context::Context;
+use context::{Context, MatrixMode};
 use examples_shown::{
-    AT_COLORS, AT_FOURS, AT_PAIRS, BASE, BYTE, FOG, GUEST, PAIRS, RED, REST, TRIANGLES,
-    UNSIGNED_BYTE, X, Z,
+    AT_COLORS, AT_FOURS, AT_PAIRS, BASE, BYTE, FLOAT, FOG, GUEST, PAIRS, RED, REST, TRIANGLE_FAN,
+    TRIANGLE_STRIP, TRIANGLES, UNSIGNED_BYTE, X, Z,
 };
-
-// A type.
-const FLOAT: u32 = 0x1406;
-
-// Modes.
-const STRIP: u32 = 5;
-
-const FAN: u32 = 6;
-
-const PROJECTION: u32 = 0x1701;
-
-const TEXTURE: u32 = 0x1702;
 
 fn range(base: u32, size: u32, ty: u32, pointer: u32, mode: u32, first: u32, count: u32) {
     let store = [0u8; STORE_BYTES];
@@ -57,7 +45,7 @@ fn current_pairs() -> Context {
 
 // A texture matrix that takes s, t to 2s + 1, 3t.
 fn texture_matrix() -> Context {
-    let a = gles_matrix::set_matrix_mode(current_pairs(), TEXTURE);
+    let a = gles_matrix::set_matrix_mode(current_pairs(), MatrixMode::Texture.into());
     let b = gles_matrix::translate(a.context, 1.0, 0.0, 0.0);
     let c = gles_matrix::scale(b.context, 2.0, 3.0, 1.0);
     c.context
@@ -97,7 +85,7 @@ fn turned(word: usize) {
 // Twice the x of a vertex moved by 1.
 fn projected() {
     let a = gles_matrix::translate(examples_shown::positions(), 1.0, 0.0, 0.0);
-    let b = gles_matrix::set_matrix_mode(a.context, PROJECTION);
+    let b = gles_matrix::set_matrix_mode(a.context, MatrixMode::Projection.into());
     let c = gles_matrix::scale(b.context, 2.0, 2.0, 2.0);
     examples_shown::show(c.context, 0, X);
 }
@@ -128,7 +116,7 @@ fn say_ends(out: &[f32; 50]) {
 // An output that is one short is unchanged.
 fn short_output() {
     let mut out = [7.0; 50];
-    examples_shown::say_number(draw_short(&mut out) as u64);
+    examples_shown::say_number(u64::from(draw_short(&mut out)));
     say_ends(&out);
 }
 
@@ -147,15 +135,19 @@ fn short_store() {
 }
 
 fn ranges() {
-    shape(4138, 7, 3);
-    shape(BASE, 7, 3);
-    shape(BASE, 3, 3);
-    shape(0, TRIANGLES, 3);
-    shape(BASE, STRIP, 5);
-    shape(BASE, FAN, 5);
-    shape(BASE, TRIANGLES, 5);
-    shape(BASE, STRIP, 2);
-    shape(BASE, 99, 0);
+    for (pointer, mode, count) in [
+        (4138, 7, 3),
+        (BASE, 7, 3),
+        (BASE, 3, 3),
+        (0, TRIANGLES, 3),
+        (BASE, TRIANGLE_STRIP, 5),
+        (BASE, TRIANGLE_FAN, 5),
+        (BASE, TRIANGLES, 5),
+        (BASE, TRIANGLE_STRIP, 2),
+        (BASE, 99, 0),
+    ] {
+        shape(pointer, mode, count);
+    }
     five_floats(4130);
     five_floats(4126);
     view(4294967247, 0);
@@ -164,10 +156,9 @@ fn ranges() {
 }
 
 fn values() {
-    pairs(AT_PAIRS, 5);
-    pairs(AT_PAIRS, 2);
-    pairs(AT_PAIRS, 16);
-    pairs(1, 1);
+    for (pointer, stages) in [(AT_PAIRS, 5), (AT_PAIRS, 2), (AT_PAIRS, 16), (1, 1)] {
+        pairs(pointer, stages);
+    }
     examples_shown::say(b"colours, the third unreadable:");
     colors(COLOR_ARRAY);
     examples_shown::say(b"colour array disabled:");

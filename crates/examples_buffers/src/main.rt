@@ -3,24 +3,22 @@
 
 use buffers::{ARRAY_BUFFER, ELEMENT_ARRAY_BUFFER, STORE_BYTES};
 use context::Context;
-use examples_shown::{AT_INDICES, BASE, BYTE, GUEST, TRIANGLES, UNSIGNED_BYTE, X};
-
-// A type.
-const UNSIGNED_SHORT: u32 = 0x1403;
+use examples_shown::{
+    AT_INDICES, BASE, BYTE, GUEST, TRIANGLES, UNSIGNED_BYTE, UNSIGNED_INT, UNSIGNED_SHORT, X,
+};
 
 // Three indices, and a fourth that ends in no triangle.
-fn list(a: u32, b: u32, c: u32, d: u32) {
+fn list(indices: [u32; 4]) {
     let store = [0u8; STORE_BYTES];
     let guest = GUEST;
     let mut out = [7.0; 204];
-    let i = [a, b, c, d];
     let r = gles_draws::draw_elements(
         examples_shown::positions(),
         &store,
         BASE,
         &guest,
         TRIANGLES,
-        &i,
+        &indices,
         0,
         &mut out,
     );
@@ -104,7 +102,7 @@ fn names() {
     let c = gles_buffers::bind_buffer(b.context, ARRAY_BUFFER, 5);
     let d = gles_buffers::bind_buffer(b.context, ARRAY_BUFFER, 99);
     examples_shown::say_answers(a.number, b.first as usize, c.number);
-    examples_shown::say_number(d.number as u64);
+    examples_shown::say_number(u64::from(d.number));
 }
 
 // The number of buffer_data.
@@ -117,15 +115,19 @@ fn sized(size: usize) -> u32 {
 
 fn indices() {
     examples_shown::say(b"list 5, 3, 1, 0:");
-    list(5, 3, 1, 0);
+    list([5, 3, 1, 0]);
     examples_shown::say(b"list 0, 1, 2, 99:");
-    list(0, 1, 2, 99);
-    indexed(UNSIGNED_SHORT, BASE, 99, 0);
-    indexed(UNSIGNED_SHORT, 0, 99, 0);
-    indexed(UNSIGNED_SHORT, AT_INDICES, TRIANGLES, 3);
-    indexed(UNSIGNED_SHORT, 4141, TRIANGLES, 3);
-    indexed(UNSIGNED_BYTE, AT_INDICES, TRIANGLES, 3);
-    indexed(0x1405, AT_INDICES, TRIANGLES, 3);
+    list([0, 1, 2, 99]);
+    for (ty, pointer, mode, count) in [
+        (UNSIGNED_SHORT, BASE, 99, 0),
+        (UNSIGNED_SHORT, 0, 99, 0),
+        (UNSIGNED_SHORT, AT_INDICES, TRIANGLES, 3),
+        (UNSIGNED_SHORT, 4141, TRIANGLES, 3),
+        (UNSIGNED_BYTE, AT_INDICES, TRIANGLES, 3),
+        (UNSIGNED_INT, AT_INDICES, TRIANGLES, 3),
+    ] {
+        indexed(ty, pointer, mode, count);
+    }
     examples_shown::say(b"element buffer:");
     elements(0);
     examples_shown::say(b"past the element buffer:");
@@ -136,8 +138,9 @@ fn buffers() {
     examples_shown::say(b"bind 5 at target 0, gen 15, bind 5, bind 99:");
     names();
     examples_shown::say(b"\ndata of 4096 and 4097 bytes:");
-    examples_shown::say_number(sized(4096) as u64);
-    examples_shown::say_number(sized(4097) as u64);
+    for size in [4096, 4097] {
+        examples_shown::say_number(u64::from(sized(size)));
+    }
     examples_shown::say(b"\nbuffer deleted:");
     revived(false);
     examples_shown::say(b"name bound and filled:");

@@ -1,7 +1,7 @@
 -- Worked examples of single rules of document 01, as theorems about the rules that the calls follow.
-use Rattle.std.specs.Prelude.{true, false, ◌≡◌, refl, ℕ, ◌+◌, ◌<◌, ◌≤◌}
+use Rattle.std.specs.Prelude.{true, false, ◌≡◌, refl, ℕ, ◌+◌, ◌<◌, ◌≤◌, Err}
 use mathlib.Core.List.{List, [], ◌∷◌, foldl}
-use Rattle.std.proofs.Math.Option.{some, none}
+use Rattle.std.proofs.Math.Option.{some, none, bind}
 use Rattle.std.proofs.Common.{lt-ltb, le-ltb}
 use Rattle.std.specs.Float.{nan}
 use Rattle.std.specs.Float.Ieee.{of_bits, eq, le}
@@ -13,7 +13,7 @@ use Rattle.pipeline.specs.Pipeline.{capability, fresh_pipeline, accepted_pipelin
 use Rattle.fetch.specs.Decode.{component_bytes}
 use Rattle.fetch.specs.Fetch.{bytes, unreadable, in_guest, part_of, address_of, fetched}
 use Rattle.fetch.specs.declared.ArrayPointer.{ArrayPointer}
-use Rattle.fetch.specs.declared.Fetched.{Fetched}
+use Rattle.fetch.specs.declared.FetchFailure.{FetchFailure}
 use Rattle.context.specs.State.{State, fresh_state}
 use Rattle.context.specs.Calls.{BufferCall, bind_buffer, delete_buffers, buffer_data, buffer_sub_data, buffer, Call, matrix, object, pipeline}
 use Rattle.context.specs.Rules.{number_of, step}
@@ -54,8 +54,8 @@ abbrev pub array_of_type : ℕ → ArrayPointer
 array_of_type ty = record { enabled = true; size = 1; ty = ty; stride = 0; pointer = 0; buffer = 1 }
 
 -- a fetch fails if the type is another, or the buffer is absent
-pub failures : (fetched (λ n. some (0 ∷ [])) 0 [] (array_of_type 0x1404) 0 false ≡ Fetched.UnknownType)
-    × (fetched (λ n. none) 0 [] (array_of_type 0x1400) 0 false ≡ Fetched.NoBuffer)
+pub failures : (fetched (λ n. some (0 ∷ [])) 0 [] (array_of_type 0x1404) 0 false ≡ Err FetchFailure.UnknownType)
+    × (fetched (λ n. none) 0 [] (array_of_type 0x1400) 0 false ≡ Err FetchFailure.NoBuffer)
 unfolding component_bytes address_of part_of fetched
 failures = (refl, refl)
 
@@ -65,8 +65,8 @@ pub guest_reads : (in_guest 100 (7 ∷ 8 ∷ 9 ∷ []) 101 2 ≡ bytes (8 ∷ 9 
 guest_reads = (refl, refl, refl, refl, refl)
 
 -- scissor is accepted and changes nothing
-pub scissor : (number_of (pipeline (capability 0x0C11 true)) fresh_state ≡ 0) × ((pipeline_step (capability 0x0C11 true) fresh_pipeline).pipeline ≡ fresh_pipeline)
-unfolding pipeline_step accepted_pipeline
+pub scissor : (number_of (pipeline (capability 0x0C11 true)) fresh_state ≡ 0) × ((pipeline_step (capability 0x0C11 true) fresh_pipeline).after ≡ fresh_pipeline)
+unfolding pipeline_step accepted_pipeline bind
 scissor = (refl, refl)
 
 -- a comparison with NaN is false

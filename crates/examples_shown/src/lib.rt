@@ -12,10 +12,22 @@ pub const BYTE: u32 = 0x1400;
 
 pub const UNSIGNED_BYTE: u32 = 0x1401;
 
-// A mode.
+pub const UNSIGNED_SHORT: u32 = 0x1403;
+
+pub const UNSIGNED_INT: u32 = 0x1405;
+
+pub const FLOAT: u32 = 0x1406;
+
+// Modes.
 pub const TRIANGLES: u32 = 4;
 
-// Words of a corner; the pairs of the first corner; words around the end of one triangle.
+pub const TRIANGLE_STRIP: u32 = 5;
+
+pub const TRIANGLE_FAN: u32 = 6;
+
+// How many words a corner has. Words of a corner; the pairs of the first corner; words around the end of one triangle.
+const CORNER_WORDS: usize = 17;
+
 pub const X: usize = 0;
 
 pub const Z: usize = 2;
@@ -58,66 +70,43 @@ pub fn say_number(n: u64) {
 
 pub fn say_word(out: &[f32], at: usize) {
     if at < out.len() {
+        say_words(&out[at..at + 1]);
+    }
+}
+
+fn say_words(words: &[f32]) {
+    for x in words {
         say(b" ");
-        io::print_hex(1, number::bits_of_f32(out[at]) as u64, 8);
+        io::print_hex(1, u64::from(number::bits_of_f32(*x)), 8);
     }
 }
 
-// A word of each corner of a triangle.
-fn say_corners(out: &[f32; 204], triangle: usize, word: usize) {
-    if triangle < 4 {
-        if word < 17 {
-            let first = 51 * triangle + word;
-            say_word(out, first);
-            say_word(out, first + 17);
-            say_word(out, first + 34);
-        }
-    }
-}
-
-fn say_pairs(out: &[f32; 204]) {
-    say_word(out, 8);
-    say_word(out, 9);
-    say_word(out, 10);
-    say_word(out, 11);
-    say_word(out, 12);
-    say_word(out, 13);
-    say_word(out, 14);
-    say_word(out, 15);
-}
-
+// Of one triangle its pairs or the words around its end, or else a word of each corner of the first three.
 fn say_triangles(out: &[f32; 204], count: usize, word: usize) {
-    if word == PAIRS {
-        say_pairs(out);
-        return;
-    }
-    if word == REST {
-        say_word(out, 50);
-        say_word(out, 51);
-        return;
-    }
-    say_corners(out, 0, word);
-    if 1 < count {
-        say_corners(out, 1, word);
-    }
-    if 2 < count {
-        say_corners(out, 2, word);
+    match word {
+        PAIRS => say_words(&out[8..16]),
+        REST => say_words(&out[50..52]),
+        _ => {
+            for corner in out.chunks_exact(CORNER_WORDS).take(3 * count.min(3)) {
+                say_word(corner, word);
+            }
+        }
     }
 }
 
 // A name and its numbers.
 pub fn say_case(name: &[u8], a: u32, b: u32, c: u32) {
     say(name);
-    say_number(a as u64);
-    say_number(b as u64);
-    say_number(c as u64);
+    for n in [a, b, c] {
+        say_number(u64::from(n));
+    }
     say(b":");
 }
 
 pub fn say_answers(number: u32, count: usize, code: u32) {
-    say_number(number as u64);
+    say_number(u64::from(number));
     say_number(count as u64);
-    say_number(code as u64);
+    say_number(u64::from(code));
 }
 
 pub fn show_draw(r: DrawReply, out: &[f32; 204], word: usize) {

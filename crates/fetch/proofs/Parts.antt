@@ -2,7 +2,8 @@
 use Prim.Native.Nat.{ℕ, ◌+◌, ◌-◌, ◌*◌, ◌<◌, ◌≤◌, min}
 use mathlib.Core.List.{List}
 use mathlib.Core.Option.{Option, some}
-use mathlib.Core.Path.{◌≡◌, sym, ap, ◌∙◌}
+use mathlib.Core.Path.{◌≡◌, refl, sym, ap, ◌∙◌}
+use Rattle.std.specs.Prelude.{Err}
 use native.Mathlib.Omega.{arith}
 use lib.ListN.{length, take, drop, length-take, length-drop}
 use lib.Seq.{get_or-take, get_or-drop, ext_get_or, drop-drop}
@@ -10,7 +11,14 @@ use borrow.Author.Tests.{lt-leb, le-leb}
 use Rattle.buffers.specs.Objects.{contents_of, slot_of, len_at, bytes_in_slot}
 use Rattle.buffers.specs.declared.Slot.{Slot}
 use Rattle.buffers.proofs.Slots.{slot_unknown, contents_none, contents_zero, contents_some}
-use Rattle.fetch.specs.Fetch.{Part, bytes, no_buffer, unreadable, in_buffer, in_guest}
+use Rattle.fetch.specs.Fetch.{Part, bytes, no_buffer, unreadable, in_buffer, in_guest, part_state}
+use Rattle.fetch.specs.FetchCode.{part_in}
+use Rattle.fetch.specs.declared.Missing.{Missing}
+
+-- the state of a part that is missing
+pub missing_state : (m : Missing) → part_state (part_in (Err m)) ≡ Err m
+missing_state Missing.NoBuffer = refl
+missing_state Missing.Unreadable = refl
 
 pub part_length : (l : List ℕ) (at n : ℕ) → at + n ≤ length l → length (take n (drop at l)) ≡ n
 part_length l at n h = simp (length-take, length-drop) (omega arith)

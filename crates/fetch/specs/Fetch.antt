@@ -1,10 +1,15 @@
 -- A fetch (01: "Pointers and attributes", "Fetch and decode"): an element's address, its bytes, and the answer.
-use Rattle.std.specs.Prelude.{ℕ, ◌+◌, ◌-◌, ◌*◌, Bool, true, false, cond, ◌&&◌, List, [], eqb, ltb, leb, length, take, drop}
+use Rattle.std.specs.Prelude.{ℕ, ◌+◌, ◌-◌, ◌*◌, Bool, true, false, cond, ◌&&◌, List, [], eqb, ltb, leb, length, take, drop, Result, Ok, Err}
 use Rattle.std.proofs.Math.Option.{Option, some, none}
 use Rattle.fetch.specs.Decode.{component_bytes, vector_of}
 use Rattle.fetch.specs.declared.ArrayPointer.{ArrayPointer}
-use Rattle.fetch.specs.declared.Fetched.{Fetched}
-use Rattle.fetch.specs.declared.PartState.{PartState}
+use Rattle.fetch.specs.declared.FetchFailure.{FetchFailure}
+use Rattle.fetch.specs.declared.Missing.{Missing}
+use Rattle.fetch.specs.declared.Vec4.{Vec4}
+
+-- what a fetch answers: four components, or the failure
+abbrev pub Fetched : Type 0
+Fetched = Result Vec4 FetchFailure
 
 abbrev pub fresh_array : ArrayPointer
 fresh_array = record { enabled = false; size = 4; ty = 0x1406; stride = 0; pointer = 0; buffer = 0 }
@@ -68,10 +73,10 @@ is_found no_buffer = false
 is_found unreadable = false
 
 -- whether there are bytes, or why not
-abbrev pub part_state : Part → PartState
-part_state (bytes bs) = PartState.Found
-part_state no_buffer = PartState.NoBuffer
-part_state unreadable = PartState.Unreadable
+abbrev pub part_state : Part → Result Unit Missing
+part_state (bytes bs) = Ok tt
+part_state no_buffer = Err Missing.NoBuffer
+part_state unreadable = Err Missing.Unreadable
 
 -- a part's bytes, none where there are none
 abbrev pub bytes_in : Part → List ℕ
@@ -82,14 +87,14 @@ bytes_in unreadable = []
 -- ---- the fetch
 
 abbrev pub decoded : ArrayPointer → Bool → Part → Fetched
-decoded a normalize (bytes bs) = Fetched.Components (vector_of a.ty a.size normalize bs)
-decoded a normalize no_buffer = Fetched.NoBuffer
-decoded a normalize unreadable = Fetched.Unreadable
+decoded a normalize (bytes bs) = Ok (vector_of a.ty a.size normalize bs)
+decoded a normalize no_buffer = Err FetchFailure.NoBuffer
+decoded a normalize unreadable = Err FetchFailure.Unreadable
 
 abbrev pub fetched_at : (ℕ → Option (List ℕ)) → ℕ → List ℕ → ArrayPointer → Bool → Address → Fetched
 fetched_at contents base guest a normalize (address_at address len) = decoded a normalize (part_of contents base guest a.buffer address len)
-fetched_at contents base guest a normalize unknown_type = Fetched.UnknownType
-fetched_at contents base guest a normalize overflow = Fetched.Overflow
+fetched_at contents base guest a normalize unknown_type = Err FetchFailure.UnknownType
+fetched_at contents base guest a normalize overflow = Err FetchFailure.Overflow
 
 -- element `index` of an array, from the live names' contents and the guest bytes from `base` on
 unfoldable pub fetched : (ℕ → Option (List ℕ)) → ℕ → List ℕ → ArrayPointer → ℕ → Bool → Fetched
@@ -97,8 +102,8 @@ fetched contents base guest a index normalize = fetched_at contents base guest a
 
 -- the number of each answer where a position is fetched
 abbrev pub position_number : Fetched → ℕ
-position_number (Fetched.Components v) = 0
-position_number Fetched.UnknownType = 9
-position_number Fetched.Overflow = 9
-position_number Fetched.NoBuffer = 9
-position_number Fetched.Unreadable = 9
+position_number (Ok v) = 0
+position_number (Err FetchFailure.UnknownType) = 9
+position_number (Err FetchFailure.Overflow) = 9
+position_number (Err FetchFailure.NoBuffer) = 9
+position_number (Err FetchFailure.Unreadable) = 9

@@ -1,4 +1,5 @@
 // The buffer calls. Each takes the context by value and gives it back with the call's number.
+// They do not go through `Context::change`: of a store that a closure borrows its contract says nothing, and the buffers would be tested twice.
 #![tactic(auto)]
 
 ghost use Rattle.std.specs.Prelude.{◌≡◌};
@@ -6,57 +7,52 @@ ghost use Rattle.buffers.specs.Objects.{gen_first};
 ghost use Rattle.context.specs.Calls.{Call, ObjectCall, BufferCall};
 ghost use Rattle.context.specs.Contract.{Did, Does};
 
-use buffers::{Answered, INVALID};
 use context::{Context, GenReply, Reply};
 
 // The first of n names, one after the other; 0 where none is made.
-pub fn gen_buffers(c: Context, n: usize) -> GenReply
+pub fn gen_buffers(mut c: Context, n: usize) -> GenReply
     ensures does { Does (Call.object (ObjectCall.buffer (BufferCall.gen_buffers n))) c result.number result.context }
     ensures first { result.first ≡ gen_first result.number c.buffers.next n }
 {
     if !c.is_sound_apart() {
+        let Reply { number, context } = c.refuse();
         return GenReply {
-            number: INVALID,
+            number,
             first: 0,
-            context: c,
+            context,
         };
     }
-    let old = c.buffers;
-    let a = buffers::gen_buffers(old, n);
-    let first = a.first;
-    let number = a.number;
-    let buffers = a.buffers;
-    let r = c.put_buffers(Answered { number, buffers });
-    let context = r.context;
+    let made = c.buffers.generate(n);
+    let Reply { number, context } = c.answer(made.and(Ok(())));
     GenReply {
         number,
-        first,
+        first: made.unwrap_or(0),
         context,
     }
 }
 
-pub fn bind_buffer(c: Context, target: u32, name: u32) -> Reply
+pub fn bind_buffer(mut c: Context, target: u32, name: u32) -> Reply
     ensures { Does (Call.object (ObjectCall.buffer (BufferCall.bind_buffer target name))) c result.number result.context }
 {
     if !c.is_sound_apart() {
         return c.refuse();
     }
-    let old = c.buffers;
-    c.put_buffers(buffers::bind_buffer(old, target, name))
+    let done = c.buffers.bind(target, name);
+    c.answer(done)
 }
 
-pub fn delete_buffers(c: Context, names: &[u32]) -> Reply
+pub fn delete_buffers(mut c: Context, names: &[u32]) -> Reply
     ensures { Does (Call.object (ObjectCall.buffer (BufferCall.delete_buffers names.now))) c result.number result.context }
 {
     if !c.is_sound_apart() {
         return c.refuse();
     }
-    let old = c.buffers;
-    c.put_buffers(buffers::delete_buffers(old, names))
+    let done = c.buffers.delete(names);
+    c.answer(done)
 }
 
 pub fn buffer_data(
-    c: Context,
+    mut c: Context,
     store: &mut [u8],
     target: u32,
     size: usize,
@@ -69,17 +65,23 @@ pub fn buffer_data(
     if !c.is_sound_apart() {
         return c.refuse();
     }
-    let old = c.buffers;
-    c.put_buffers(buffers::buffer_data(old, store, target, size, data))
+    let done = c.buffers.set_data(store, target, size, data);
+    c.answer(done)
 }
 
-pub fn buffer_sub_data(c: Context, store: &mut [u8], target: u32, offset: u32, data: &[u8]) -> Reply
+pub fn buffer_sub_data(
+    mut c: Context,
+    store: &mut [u8],
+    target: u32,
+    offset: u32,
+    data: &[u8],
+) -> Reply
     ensures { Did (Call.object (ObjectCall.buffer (BufferCall.buffer_sub_data target offset «data».now)))
         c store.old result.number result.context store.new }
 {
     if !c.is_sound_apart() {
         return c.refuse();
     }
-    let old = c.buffers;
-    c.put_buffers(buffers::buffer_sub_data(old, store, target, offset, data))
+    let done = c.buffers.set_sub_data(store, target, offset, data);
+    c.answer(done)
 }

@@ -1,13 +1,24 @@
 // The draws. Each takes the context by value and gives it back with the call's number and its count of triangles.
 #![tactic(auto)]
 
-ghost use Rattle.std.specs.Prelude.{length};
+ghost use Rattle.std.specs.Prelude.{◌≡◌, length};
 ghost use Rattle.vertex.specs.Scene.{Source};
 ghost use Rattle.context.specs.Calls.{Call};
-ghost use Rattle.context.specs.Contract.{Did, Drew, draw_call, drawn_of};
+ghost use Rattle.context.specs.Contract.{Did, Drew, draw_call, draw_reply, drawn_of};
 
-use buffers::INVALID;
 use context::{Context, DrawReply};
+use refusal::Refusal;
+
+// The reply of a context that is not sound, or for a store of another length.
+fn refuse(c: Context) -> DrawReply
+    ensures { result ≡ draw_reply 1 0 c }
+{
+    DrawReply {
+        number: u32::from(Refusal::Invalid),
+        count: 0,
+        context: c,
+    }
+}
 
 // A draw of a borrowed list of indices.
 pub fn draw_elements<'a>(
@@ -26,11 +37,7 @@ pub fn draw_elements<'a>(
         c store.now (drawn_of result) out.old out.new }
 {
     if !c.is_ready(store.len()) {
-        return DrawReply {
-            number: INVALID,
-            count: 0,
-            context: c,
-        };
+        return refuse(c);
     }
     let s = c.draw_inputs(base, stages);
     c.answer_draw(draw::draw_list(s, store, guest, mode, indices, out))
@@ -54,11 +61,7 @@ pub fn draw_arrays<'a>(
         c store.now (drawn_of result) out.old out.new }
 {
     if !c.is_ready(store.len()) {
-        return DrawReply {
-            number: INVALID,
-            count: 0,
-            context: c,
-        };
+        return refuse(c);
     }
     let s = c.draw_inputs(base, stages);
     c.answer_draw(draw::draw_range(s, store, guest, mode, first, count, out))
@@ -83,11 +86,7 @@ pub fn draw_elements_from_guest<'a>(
         c store.now (drawn_of result) out.old out.new }
 {
     if !c.is_ready(store.len()) {
-        return DrawReply {
-            number: INVALID,
-            count: 0,
-            context: c,
-        };
+        return refuse(c);
     }
     let s = c.draw_inputs(base, stages);
     let element = c.buffers.element_buffer;

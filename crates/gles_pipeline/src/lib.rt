@@ -7,84 +7,76 @@ ghost use Rattle.context.specs.Calls.{Call};
 ghost use Rattle.context.specs.Rules.{error_code};
 ghost use Rattle.context.specs.Contract.{Does};
 
-use buffers::INVALID;
 use context::{Context, ErrorReply, Reply};
+use refusal::Refusal;
 
 pub fn set_active_texture(c: Context, unit: u32) -> Reply
     ensures { Does (Call.pipeline (PipelineCall.active_texture unit)) c result.number result.context }
 {
-    let old = c.pipeline;
-    c.answer_pipeline(pipeline::set_active_texture(old, unit))
+    c.change(|c| c.pipeline.set_active_texture(unit))
 }
 
 pub fn set_capability(c: Context, cap: u32, on: bool) -> Reply
     ensures { Does (Call.pipeline (PipelineCall.capability cap on)) c result.number result.context }
 {
-    let old = c.pipeline;
-    c.answer_pipeline(pipeline::set_capability(old, cap, on))
+    c.change(|c| c.pipeline.set_capability(cap, on))
 }
 
 pub fn tex_env(c: Context, pname: u32, value: u32) -> Reply
     ensures { Does (Call.pipeline (PipelineCall.tex_env pname value)) c result.number result.context }
 {
-    let old = c.pipeline;
-    c.answer_pipeline(pipeline::tex_env(old, pname, value))
+    c.change(|c| c.pipeline.tex_env(pname, value))
 }
 
 pub fn set_tex_env_color(c: Context, color: [f32; 4]) -> Reply
     ensures { Does (Call.pipeline (PipelineCall.tex_env_color color)) c result.number result.context }
 {
-    let old = c.pipeline;
-    c.answer_pipeline(pipeline::set_tex_env_color(old, color))
+    c.change(|c| c.pipeline.set_tex_env_color(color))
 }
 
 pub fn set_depth_func(c: Context, func: u32) -> Reply
     ensures { Does (Call.pipeline (PipelineCall.depth_func func)) c result.number result.context }
 {
-    let old = c.pipeline;
-    c.answer_pipeline(pipeline::set_depth_func(old, func))
+    c.change(|c| c.pipeline.set_depth_func(func))
 }
 
 pub fn set_depth_range(c: Context, near: f32, far: f32) -> Reply
     ensures { Does (Call.pipeline (PipelineCall.depth_range near far)) c result.number result.context }
 {
-    let old = c.pipeline;
-    c.answer_pipeline(pipeline::set_depth_range(old, near, far))
+    c.change(|c| {
+        c.pipeline.set_depth_range(near, far);
+        Ok(())
+    })
 }
 
 pub fn set_alpha_func(c: Context, func: u32, reference: f32) -> Reply
     ensures { Does (Call.pipeline (PipelineCall.alpha_func func reference)) c result.number result.context }
 {
-    let old = c.pipeline;
-    c.answer_pipeline(pipeline::set_alpha_func(old, func, reference))
+    c.change(|c| c.pipeline.set_alpha_func(func, reference))
 }
 
 pub fn set_blend_func(c: Context, src: u32, dst: u32) -> Reply
     ensures { Does (Call.pipeline (PipelineCall.blend_func src dst)) c result.number result.context }
 {
-    let old = c.pipeline;
-    c.answer_pipeline(pipeline::set_blend_func(old, src, dst))
+    c.change(|c| c.pipeline.set_blend_func(src, dst))
 }
 
 pub fn set_cull_face(c: Context, mode: u32) -> Reply
     ensures { Does (Call.pipeline (PipelineCall.cull_face mode)) c result.number result.context }
 {
-    let old = c.pipeline;
-    c.answer_pipeline(pipeline::set_cull_face(old, mode))
+    c.change(|c| c.pipeline.set_cull_face(mode))
 }
 
 pub fn set_front_face(c: Context, mode: u32) -> Reply
     ensures { Does (Call.pipeline (PipelineCall.front_face mode)) c result.number result.context }
 {
-    let old = c.pipeline;
-    c.answer_pipeline(pipeline::set_front_face(old, mode))
+    c.change(|c| c.pipeline.set_front_face(mode))
 }
 
 pub fn set_fog(c: Context, pname: u32, value: f32) -> Reply
     ensures { Does (Call.pipeline (PipelineCall.fog pname value)) c result.number result.context }
 {
-    let old = c.pipeline;
-    c.answer_pipeline(pipeline::set_fog(old, pname, value))
+    c.change(|c| c.pipeline.set_fog(pname, value))
 }
 
 // The code in the error slot, which is empty afterwards.
@@ -94,17 +86,14 @@ pub fn take_error(c: Context) -> ErrorReply
 {
     if !c.is_sound() {
         return ErrorReply {
-            number: INVALID,
+            number: u32::from(Refusal::Invalid),
             code: 0,
             context: c,
         };
     }
-    let code = c.error;
-    let mut out = c;
-    out.error = 0;
     ErrorReply {
         number: 0,
-        code,
-        context: out,
+        code: c.error,
+        context: Context { error: 0, ..c },
     }
 }

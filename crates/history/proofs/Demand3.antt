@@ -12,8 +12,7 @@ use Rattle.vertex.specs.Scene.{DrawState, DrawCall, Scene, scene_of}
 use Rattle.vertex.specs.Index.{index_total}
 use Rattle.corners.specs.Places.{triangle_count, primitive_of}
 use Rattle.assembly.specs.Triangles.{Triangle, words_of}
-use Rattle.draw.specs.Draw.{Drawing, draw_of, Draws}
-use Rattle.draw.specs.declared.Drawn.{Drawn}
+use Rattle.draw.specs.Draw.{Drawing, Drawn, draw_of, Draws}
 use Rattle.corners.proofs.Places.{count_le}
 use Rattle.assembly.proofs.Triangles.{length_words}
 use Rattle.draw.proofs.Counts.{refused_none, accepted_count}

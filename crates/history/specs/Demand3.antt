@@ -22,16 +22,16 @@ use Rattle.context.specs.Contract.{Did, Drew, drawn_of}
 
 -- ---- 1. the five logs (01: strands), in the calls' order
 
--- the matrix calls made while `which` is the mode in force; `inForce` is the mode before the list
+-- the matrix calls made while `which` is the mode in force; `in_force` is the mode before the list
 unfoldable pub matrix_log : MatrixMode → MatrixMode → List Call → List MatrixCall
-matrix_log which inForce [] = []
-matrix_log which inForce (matrix k ∷ l) = cond (same_mode which inForce) (k ∷ matrix_log which inForce l) (matrix_log which inForce l)
-matrix_log which inForce (mode code ∷ l) = matrix_log which (mode_after code inForce) l
-matrix_log which inForce (object k ∷ l) = matrix_log which inForce l
-matrix_log which inForce (attribute k ∷ l) = matrix_log which inForce l
-matrix_log which inForce (pipeline k ∷ l) = matrix_log which inForce l
-matrix_log which inForce (take_error ∷ l) = matrix_log which inForce l
-matrix_log which inForce (draw d ∷ l) = matrix_log which inForce l
+matrix_log which in_force [] = []
+matrix_log which in_force (matrix k ∷ l) = cond (same_mode which in_force) (k ∷ matrix_log which in_force l) (matrix_log which in_force l)
+matrix_log which in_force (mode code ∷ l) = matrix_log which (mode_after code in_force) l
+matrix_log which in_force (object k ∷ l) = matrix_log which in_force l
+matrix_log which in_force (attribute k ∷ l) = matrix_log which in_force l
+matrix_log which in_force (pipeline k ∷ l) = matrix_log which in_force l
+matrix_log which in_force (take_error ∷ l) = matrix_log which in_force l
+matrix_log which in_force (draw d ∷ l) = matrix_log which in_force l
 
 -- the buffer, pointer, client state and client unit calls
 unfoldable pub object_log : List Call → List ObjectCall
@@ -73,7 +73,7 @@ abbrev pub replay_objects : ObjectState → List ObjectCall → ObjectState
 replay_objects o l = foldl (λ p k. object_step k p) o l
 
 abbrev pub replay_attributes : Attributes → List AttributeCall → Attributes
-replay_attributes a l = foldl (λ b k. (attribute_step k b).attributes) a l
+replay_attributes a l = foldl (λ b k. (attribute_step k b).after) a l
 
 -- number and triangles of a draw, by the draw rules on the five states that the replays end in
 abbrev pub draw_replayed : Logs → DrawCall → Drawing

@@ -1,5 +1,5 @@
 -- A thin function over a stack that the caller lends:
---     fn f(stack: &mut MatrixStack) -> u32 { let a = stack.g(); *stack = a.stack; a.number }
+--     fn f(stack: &mut MatrixStack) -> u32 { let a = g(*stack); *stack = a.stack; a.number }
 -- The borrow is opened, the stack is copied out of it and passed to g, the answer's stack is stored, and the borrow is closed at it.
 --     function g               its code, over the key of g
 --     callee_clauses answer    the contract of g: it gives `answer`
@@ -43,13 +43,13 @@ use denote.Triple.Call.{calls_at}
 use denote.Triple.Clauses.{Clauses, at_exit, closing, ensured, lasts}
 use denote.Triple.Walked.{Stays, stay_ref, walk_of, Goes-ref, Walks, ends_at, walked, walk_Meets}
 use Rattle.stack.specs.declared.MatrixStack.{MatrixStack}
-use Rattle.stack.specs.declared.StackAnswer.{StackAnswer}
+use Rattle.lent_laws.specs.declared.StackAnswer.{StackAnswer}
 use Rattle.stack.specs.contracts.MatrixStack as T
 use Rattle.stack.proofs.MatrixStack.TheLaws as T'
-use Rattle.stack.specs.contracts.StackAnswer as S
-use Rattle.stack.proofs.StackAnswer.TheLaws as S'
-use Rattle.stack.specs.contracts.MatrixStack.push as callee
-use Rattle.lent_stack.specs.contracts.push as this
+use Rattle.lent_laws.specs.contracts.StackAnswer as S
+use Rattle.lent_laws.proofs.StackAnswer.TheLaws as S'
+use Rattle.lent_laws.specs.contracts.push as callee
+use Rattle.lent_laws.specs.contracts.push_lent as this
 
 abbrev pub function : Key → Fn
 function g = record {

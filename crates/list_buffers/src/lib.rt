@@ -1,29 +1,20 @@
 // The functions that make the buffer calls of records.
 #![tactic(auto)]
 
-ghost use Rattle.std.specs.Prelude.{true, ◌≡◌};
+ghost use Rattle.std.specs.Prelude.{◌≡◌};
 ghost use Rattle.context.specs.Calls.{Call, ObjectCall, BufferCall};
 ghost use Rattle.context.specs.Contract.{Did, Does};
 ghost use Rattle.list_records.specs.Encoding.{data_of, sub_data_of, buffer_of};
 ghost use Rattle.list_records.specs.Perform.{buffer_value};
 
 use context::{Context, Reply};
-use list_records::CallReply;
+use list_records::{CallReply, Record};
 
 fn make_gen(c: Context, n: usize) -> CallReply
-    ensures { (result.known ≡ true) × Does (Call.object (ObjectCall.buffer (BufferCall.gen_buffers n))) c result.number result.context
-        × (result.value ≡ buffer_value (BufferCall.gen_buffers n) c result.number) }
+    ensures did { Does (Call.object (ObjectCall.buffer (BufferCall.gen_buffers n))) c result.number result.context }
+    ensures value { result.value ≡ buffer_value (BufferCall.gen_buffers n) c result.number }
 {
-    let g = gles_buffers::gen_buffers(c, n);
-    let number = g.number;
-    let value = g.first as usize;
-    let context = g.context;
-    CallReply {
-        known: true,
-        number,
-        value,
-        context,
-    }
+    gles_buffers::gen_buffers(c, n).into()
 }
 
 fn make_data(c: Context, store: &mut [u8], w: &[u32], bytes: &[u8]) -> Reply
@@ -45,20 +36,17 @@ fn make_sub_data(c: Context, store: &mut [u8], w: &[u32], bytes: &[u8]) -> Reply
     gles_buffers::buffer_sub_data(c, store, target, offset, part)
 }
 
-pub fn make_buffer(c: Context, store: &mut [u8], code: u32, w: &[u32], bytes: &[u8]) -> CallReply
-    ensures made { (result.known ≡ true)
-        × Did (Call.object (ObjectCall.buffer (buffer_of bytes.now code w.now))) c store.old result.number result.context store.new }
-    ensures value { result.value ≡ buffer_value (buffer_of bytes.now code w.now) c result.number }
+pub fn make_buffer(c: Context, store: &mut [u8], record: Record<'_>) -> CallReply
+    ensures did { Did (Call.object (ObjectCall.buffer (buffer_of record.entry.bytes.now record.entry.code record.entry.words.now)))
+        c store.old result.number result.context store.new }
+    ensures value { result.value ≡ buffer_value (buffer_of record.entry.bytes.now record.entry.code record.entry.words.now) c result.number }
 {
-    match code {
+    let w = record.words;
+    match record.code {
         0x20 => make_gen(c, list_words::long_at(w, 0)),
-        0x21 => list_records::replied(gles_buffers::bind_buffer(
-            c,
-            list_words::word_at(w, 0),
-            list_words::word_at(w, 1),
-        )),
-        0x22 => list_records::replied(gles_buffers::delete_buffers(c, w)),
-        0x23 => list_records::replied(make_data(c, store, w, bytes)),
-        _ => list_records::replied(make_sub_data(c, store, w, bytes)),
+        0x21 => gles_buffers::bind_buffer(c, record.word(0), record.word(1)).into(),
+        0x22 => gles_buffers::delete_buffers(c, w).into(),
+        0x23 => make_data(c, store, w, record.bytes).into(),
+        _ => make_sub_data(c, store, w, record.bytes).into(),
     }
 }

@@ -19,10 +19,10 @@ use Rattle.list_draws.specs.Words.{draw_words}
 
 module _ (w : List ℕ) (out : List Float) (d : DrawWords) (e : d ≡ draw_words w (length out)) where
   -- the room is within the output
-  pub room_fits : d.room ≤ length out
+  room_fits : d.room ≤ length out
   room_fits = let q : d.room ≡ min (long_at w 2) (length out) = ap (λ (x : DrawWords). x.room) e in omega arith
 
-  pub room_is : d.room ≡ length (take d.room out)
+  room_is : d.room ≡ length (take d.room out)
   room_is = sym (length-take-le d.room out room_fits)
 
   pub drew_in : (bytes guest : List ℕ) → guest ≡ bytes_at bytes (long_at w 5) (long_at w 7) → (source source' : Source) → source ≡ source'

@@ -1,5 +1,6 @@
 -- What the function that makes the call of a record promises.
 use Rattle.std.specs.Prelude.{Bool, true, false, List, ◌++◌, ◌≡◌, ℕ, ◌≤◌, length, take, drop, Float}
+use Rattle.std.specs.Prelude.{Option as Maybe, Some, None}
 use Rattle.std.proofs.Math.Option.{Option, some, none}
 use Rattle.buffers.specs.Objects.{gen_first}
 use Rattle.vertex.specs.Scene.{DrawCall}
@@ -49,14 +50,14 @@ pub record DrewIn (d : DrawCall) (c : Context) (s : List ℕ) (out : List Float)
   pub output : out1 ≡ part ++ drop d.room out
 
 abbrev pub reply_of : ℕ → ℕ → Context → CallReply
-reply_of n value c = record { known = true; number = n; value = value; context = c }
+reply_of n value c = record { number = n; value = value; context = c }
 
 -- A call was made. A draw has the first f32 of the output, as many as it asks for, and its value is the count; any other call leaves the output.
 pub data Performed (c : Context) (s : List ℕ) (out : List Float) (n value : ℕ) (c1 : Context) (s1 : List ℕ) (out1 : List Float) : Call → Type 0 where
   called : {k : Call} → Did k c s n c1 s1 → is_draw k ≡ false → value ≡ value_of k c n → out1 ≡ out → Performed c s out n value c1 s1 out1 k
   drew : {d : DrawCall} → DrewIn d c s out (draw_reply n value c1) out1 → s1 ≡ s → Performed c s out n value c1 s1 out1 (draw d)
 
--- words that are no record's change nothing
-pub data Performs (c : Context) (s : List ℕ) (out : List Float) (r : CallReply) (s1 : List ℕ) (out1 : List Float) : Option Call → Type 0 where
-  was_made : {k : Call} → r.known ≡ true → Performed c s out r.number r.value r.context s1 out1 k → Performs c s out r s1 out1 (some k)
-  was_unknown : r.known ≡ false → r.number ≡ 0 → r.value ≡ 0 → r.context ≡ c → s1 ≡ s → out1 ≡ out → Performs c s out r s1 out1 none
+-- what is answered of a code and words: the call's answer, or none of words that are no record's, which change nothing
+pub data Performs (c : Context) (s : List ℕ) (out : List Float) (answer : Maybe CallReply) (s1 : List ℕ) (out1 : List Float) : Option Call → Type 0 where
+  was_made : {k : Call} {r : CallReply} → answer ≡ Some r → Performed c s out r.number r.value r.context s1 out1 k → Performs c s out answer s1 out1 (some k)
+  was_unknown : answer ≡ None → s1 ≡ s → out1 ≡ out → Performs c s out answer s1 out1 none

@@ -27,7 +27,9 @@ use Rattle.list_words.specs.Words.{long, switch, float_at, bytes_at}
 use Rattle.list_records.specs.Encoding.{update_of, matrix_of, buffer_of, array_call_of, attribute_of, pipeline_of, source_of, call_of, record_sizes, is_size, is_record}
 use Rattle.buffers.specs.Objects.{store_bytes}
 use Rattle.history.specs.Demand3.{History}
-use Rattle.list_runner.specs.declared.RunReply.{RunReply}
+use Rattle.std.specs.Prelude.{Result, Ok, Err, IsOkAnd}
+use Rattle.refusal.specs.declared.Refusal.{Refusal}
+use Rattle.list_runner.specs.declared.ListReply.{ListReply}
 use Rattle.list_runner.specs.Run.{output_from, Runs}
 use Rattle.list_runner.specs.Lists.{record_length, first_call, onward, decode_to, decode}
 use Rattle.list_runner.specs.Encode.{Argument, Encoded, u32, u64, bool, f32, f32s, u32s, u8s, argument_words, argument_bytes, long_words, words_of_arguments, borrowed_by}
@@ -318,13 +320,14 @@ module _ (room : ℕ) where
 
 -- ---- what `run` leaves of an encoded list is what the list leaves
 
-pub run_encoded : {l : List Call} {s s1 : List ℕ} {out out1 : List Float} {r : RunReply}
+pub run_encoded : (l : List Call) {s s1 : List ℕ} {out out1 : List Float} {r : Result ListReply Refusal}
     → All (Encodable (length out)) l → length s ≡ store_bytes → Runs (encode l) (encoded_bytes l) s out r s1 out1
-    → History l r.context s1 × (out1 ≡ output_from [] l out)
-run_encoded {l = l} {s1 = s1} {out = out} {r = r} h e p =
+    → IsOkAnd r (λ a. History l a.context s1) × (out1 ≡ output_from [] l out)
+run_encoded l {s1 = s1} {out = out} {r = Ok a} h e p =
     let d = decodes (length out) l h in
     let q = p.ran e in
-    (subst (λ (k : List Call). History k r.context s1) d q.2, q.3 ∙ ap (λ (k : List Call). output_from [] k out) d)
+    (subst (λ (k : List Call). History k a.context s1) d q.0.1, q.1 ∙ ap (λ (k : List Call). output_from [] k out) d)
+run_encoded l {r = Err x} h e p = absurd ((p.ran e).0)
 
 -- ---- an example: a mode, a translation by 1, 1/2 and NaN, three bytes for a buffer, a draw of three indices with two bytes of guest memory
 

@@ -11,6 +11,7 @@ use lib.Dec.{ltb, leb}
 use lib.ListN.{length, take, drop, length-append, length-take, length-drop, take-append-drop}
 use lib.Seq.{get_or-drop, drop-drop, drop-append-le, length-take-le}
 use lib.Ieee.{Float}
+use Rattle.std.proofs.lemmas.List.{take_all}
 use Rattle.assembly.specs.Triangles.{Triangle, words_of}
 use Rattle.draw.specs.Draw.{output_of}
 use Rattle.draw.proofs.Counts.{drawn_fits}
@@ -27,12 +28,6 @@ use Rattle.list_runner.specs.Lists.{record_length, next_size, first_call, onward
 use Rattle.list_runner.specs.Run.{InTurn, no_call, one_more, MakesList, output_after, output_from}
 
 -- ---- the record at a place
-
-pub whole_record : (rest rest' : List ℕ) (n : ℕ) → rest ≡ rest' → n ≡ word_at rest 1 → 2 + n ≤ length rest → 2 + n ≡ record_length rest'
-whole_record rest rest' n e f h = subst (λ (l : List ℕ). 2 + n ≡ record_length l) e (rw (sym f, le-leb (2 + n) (length rest) h))
-
-pub cut_record : (rest rest' : List ℕ) (n : ℕ) → rest ≡ rest' → n ≡ word_at rest 1 → length rest < 2 + n → 0 ≡ record_length rest'
-cut_record rest rest' n e f h = subst (λ (l : List ℕ). 0 ≡ record_length l) e (rw (sym f, lt-leb (2 + n) (length rest) h))
 
 module _ (words : List ℕ) (place size : ℕ) (e : size ≡ record_length (drop place words)) where
   -- a record that is there has its words
@@ -85,31 +80,6 @@ not_a_record words place bytes room h f =
     let long : record_length l - 2 ≡ length w = omega (arith, r.0, r.1, length-take (word_at l 1) (drop 2 l), length-drop 2 l) in
     rw (ne_eqb (record_length l) 0 some_words) (ap (λ b. cond b (some (call_of bytes room (word_at l 0) w)) none) (ap (is_record (word_at l 0)) (sym long) ∙ f))
 
--- what the code finds of it
-module _ (words : List ℕ) (place : ℕ) {size : ℕ} (e : size ≡ record_length (drop place words)) where
-  pub size_short : size < 2 → 0 ≡ next_size (drop place words)
-  unfolding next_size
-  size_short h = let l : record_length (drop place words) < 2 = omega arith in rw (lt-ltb (record_length (drop place words)) 2 l)
-
-  module _ (h : 2 ≤ size) {code : ℕ} (ec : code ≡ word_at words place) where
-    first_word : code ≡ word_at (drop place words) 0
-    first_word = ec ∙ sym (get_or-drop place words 0 0 ∙ ap (λ (i : ℕ). word_at words i) (add-zero place))
-
-    -- by whether its words are a record's
-    size_by : {b : Bool} → is_record code (size - 2) ≡ b → cond b size 0 ≡ next_size (drop place words)
-    unfolding next_size
-    size_by {b = b} k =
-        let l = drop place words in
-        let long : 2 ≤ record_length l = omega arith in
-        rw (le-ltb (record_length l) 2 long)
-        ((λ i. cond b (e i) 0) ∙ ap (λ (t : Bool). cond t (record_length l) 0) (sym k ∙ (λ i. is_record (first_word i) (e i - 2))))
-
-    pub size_known : is_record code (size - 2) ≡ true → size ≡ next_size (drop place words)
-    size_known k = size_by k
-
-    pub size_unknown : is_record code (size - 2) ≡ false → 0 ≡ next_size (drop place words)
-    size_unknown k = size_by k
-
 size_cases : (r : ℕ) (b k : Bool) (size : ℕ) → size ≡ cond b 0 (cond k r 0) → (size ≡ 0 → ⊥) → (size ≡ r) × (b ≡ false) × (k ≡ true)
 size_cases r true k size e n = absurd (n e)
 size_cases r false true size e n = (e, refl, refl)
@@ -152,6 +122,24 @@ module _ (words bytes : List ℕ) (place size room : ℕ) (e : size ≡ next_siz
       go true k f g q = sym (no_record words place (record_length rest) refl bytes room (length_zero rest (ltb-true (record_length rest) 2 f)))
       go false true f g q = absurd (omega (arith, ltb-false (record_length rest) 2 f))
       go false false f g q = not_a_record words place bytes room (ltb-false (record_length rest) 2 f) g
+
+-- what is left of a list, as the code lends it
+module _ (words : List ℕ) (place : ℕ) where
+  rest_is : take (length words - place) (drop place words) ≡ drop place words
+  rest_is = take_all (length words - place) (drop place words) (omega (arith, length-drop place words))
+
+  pub none_next : next_size (take (length words - place) (drop place words)) ≡ 0 → next_size (drop place words) ≡ 0
+  none_next e = rw rest_is at e
+
+  module _ {size : ℕ} (h : (size ≡ next_size (take (length words - place) (drop place words))) × (2 ≤ size)) where
+    pub is_next : size ≡ next_size (drop place words)
+    is_next = rw rest_is at h.0
+
+    pub is_some : size ≡ 0 → ⊥
+    is_some z = absurd (omega (arith, h.1))
+
+    pub fits_in : (2 ≤ size) × (place + size ≤ length words)
+    fits_in = next_inside words [] place size 0 is_next is_some
 
 -- ---- the output of a call
 
@@ -200,21 +188,24 @@ joined {c = c} {s = s} {out = out} {k = k} p e f g q w =
     subst (λ (x : Context × List ℕ × List Float × ℕ × ℕ). Stepped c s out k x.3 x.4 x.0 x.1 x.2) (λ i. (sym g i, sym e i, sym f i, sym q i, sym w i)) p
 
 -- what has been made, and what is left to make, are the whole list
-pub record Progress (c₀ : Context) (s₀ words bytes : List ℕ) (out₀ : List Float) (place left n v : ℕ) (c : Context) (s : List ℕ) (out : List Float) : Type 0 where
+pub record Progress (c₀ : Context) (s₀ words bytes : List ℕ) (out₀ : List Float) (place made n v : ℕ) (c : Context) (s : List ℕ) (out : List Float) : Type 0 where
   pub before : List Call
-  pub made : InTurn c₀ s₀ out₀ before n v c s out
+  pub turn : InTurn c₀ s₀ out₀ before n v c s out
+  pub left : ℕ
   pub calls : before ++ decode_to left bytes (length out₀) (drop place words) ≡ decode bytes (length out₀) words
   pub read : place + words_to left bytes (length out₀) (drop place words) ≡ words_read bytes (length out₀) words
-  pub count : length before + left ≡ length words
+  pub count : length before ≡ made
+  pub whole : made + left ≡ length words
+  pub behind : made ≤ place
 
-module _ {c₀ : Context} {s₀ words bytes : List ℕ} {out₀ : List Float} {place m n0 v0 : ℕ} {c : Context} {s : List ℕ} {out : List Float}
-    (g : Progress c₀ s₀ words bytes out₀ place (suc m) n0 v0 c s out) where
+module _ {c₀ : Context} {s₀ words bytes : List ℕ} {out₀ : List Float} {place made n0 v0 : ℕ} {c : Context} {s : List ℕ} {out : List Float}
+    (g : Progress c₀ s₀ words bytes out₀ place made n0 v0 c s out) where
   -- one call more
-  progress_made : {k : Call} {n value : ℕ} {c1 : Context} {s1 : List ℕ} {out1 : List Float}
+  progress_made : {m n value : ℕ} {k : Call} {c1 : Context} {s1 : List ℕ} {out1 : List Float} → g.left ≡ suc m → 1 ≤ record_length (drop place words)
       → first_call bytes (length out₀) (drop place words) ≡ some k → Performed c s out n value c1 s1 out1 k
-      → Progress c₀ s₀ words bytes out₀ (place + record_length (drop place words)) m n value c1 s1 out1
+      → Progress c₀ s₀ words bytes out₀ (place + record_length (drop place words)) (made + 1) n value c1 s1 out1
   unfolding decode_to words_to
-  progress_made {k = k} f p =
+  progress_made {m = m} {k = k} z l f p =
       let room = length out₀ in
       let size = record_length (drop place words) in
       let on : drop size (drop place words) ≡ drop (place + size) words = drop-drop size place words in
@@ -226,60 +217,62 @@ module _ {c₀ : Context} {s₀ words bytes : List ℕ} {out₀ : List Float} {p
       in
       record {
         before = g.before ++ (k ∷ []);
-        made = one_more g.made p;
-        calls = append_assoc g.before (k ∷ []) (decode_to m bytes room (drop (place + size) words)) ∙ ap (λ (l : List Call). g.before ++ l) (sym more) ∙ g.calls;
-        read = add_assoc place size (words_to m bytes room (drop (place + size) words)) ∙ ap (λ (n : ℕ). place + n) (sym taken) ∙ g.read;
+        turn = one_more g.turn p;
+        left = m;
+        calls =
+            append_assoc g.before (k ∷ []) (decode_to m bytes room (drop (place + size) words)) ∙ ap (λ (l : List Call). g.before ++ l) (sym more)
+            ∙ ap (λ (n : ℕ). g.before ++ decode_to n bytes room (drop place words)) (sym z) ∙ g.calls;
+        read =
+            add_assoc place size (words_to m bytes room (drop (place + size) words)) ∙ ap (λ (n : ℕ). place + n) (sym taken)
+            ∙ ap (λ (n : ℕ). place + words_to n bytes room (drop place words)) (sym z) ∙ g.read;
         count = omega (arith, length-append g.before (k ∷ []), g.count);
+        whole = omega (arith, z, g.whole);
+        behind = omega (arith, l, g.behind);
       }
 
 module _ {c₀ : Context} {s₀ words bytes : List ℕ} {out₀ : List Float} where
   -- the next call is made
-  pub progress_next : {place left size n0 v0 n v : ℕ} {c c1 : Context} {s s1 : List ℕ} {out out1 : List Float}
-      → Progress c₀ s₀ words bytes out₀ place left n0 v0 c s out → 0 < left → length out ≡ length out₀
+  pub progress_next : {place made size n0 v0 n v : ℕ} {c c1 : Context} {s s1 : List ℕ} {out out1 : List Float}
+      → Progress c₀ s₀ words bytes out₀ place made n0 v0 c s out → length out ≡ length out₀
       → size ≡ next_size (drop place words) → (size ≡ 0 → ⊥) → {code : ℕ} → code ≡ word_at words place
       → Performed c s out n v c1 s1 out1 (call_of bytes (length out) code (take (place + size - (place + 2)) (drop (place + 2) words)))
-      → Progress c₀ s₀ words bytes out₀ (place + size) (left - 1) n v c1 s1 out1
-  progress_next {left = zero} g h l e nz ec p = absurd (omega arith)
-  progress_next {place = place} {left = suc m} {size = size} {n = n} {v = v} {c = c} {c1 = c1} {s = s} {s1 = s1} {out = out} {out1 = out1} g h l e nz {code = code} ec p =
+      → Progress c₀ s₀ words bytes out₀ (place + size) (made + 1) n v c1 s1 out1
+  progress_next {place = place} {made = made} {size = size} {n = n} {v = v} {c = c} {c1 = c1} {s = s} {s1 = s1} {out = out} {out1 = out1} g h e nz {code = code} ec p =
       let w = take (place + size - (place + 2)) (drop (place + 2) words) in
-      let q = subst (λ (r : ℕ). Performed c s out n v c1 s1 out1 (call_of bytes r code w)) l p in
-      let less : m ≡ suc m - 1 = omega arith in
-      subst (λ (x : ℕ × ℕ). Progress c₀ s₀ words bytes out₀ (place + x.0) x.1 n v c1 s1 out1) (λ i. (sym (next_is words bytes place size (length out₀) e nz).0 i, less i))
-      (progress_made g (next_some words bytes place size (length out₀) e nz code ec) q)
+      let q = subst (λ (r : ℕ). Performed c s out n v c1 s1 out1 (call_of bytes r code w)) h p in
+      let length_is = (next_is words bytes place size (length out₀) e nz).0 in
+      let inside = next_inside words bytes place size (length out₀) e nz in
+      let some_left : g.left ≡ suc (g.left - 1) = omega (arith, inside.0, inside.1, g.whole, g.behind) in
+      subst (λ (x : ℕ). Progress c₀ s₀ words bytes out₀ (place + x) (made + 1) n v c1 s1 out1) (sym length_is)
+      (progress_made g some_left (omega (arith, inside.0, length_is)) (next_some words bytes place size (length out₀) e nz code ec) q)
 
   -- before the first call
-  pub progress_start : Progress c₀ s₀ words bytes out₀ 0 (length words) 0 0 c₀ s₀ out₀
-  progress_start = record { before = []; made = no_call; calls = refl; read = zero-add _; count = zero-add _ }
+  pub progress_start : Progress c₀ s₀ words bytes out₀ 0 0 0 0 c₀ s₀ out₀
+  progress_start = record { before = []; turn = no_call; left = length words; calls = refl; read = zero-add _; count = refl; whole = zero-add _; behind = omega arith }
 
   -- after the last: nothing of what is left has a call
-  pub progress_ended : {place left n v : ℕ} {c : Context} {s : List ℕ} {out : List Float} → (g : Progress c₀ s₀ words bytes out₀ place left n v c s out)
-      → decode_to left bytes (length out₀) (drop place words) ≡ [] → words_to left bytes (length out₀) (drop place words) ≡ 0
-      → MakesList c₀ words bytes s₀ out₀ (record { read = place; made = length words - left; number = n; value = v; context = c }) s out
-  progress_ended {place = place} {n = n} {v = v} {c = c} {s = s} {out = out} g d z =
-      let all : g.before ≡ decode bytes (length out₀) words = sym (append-nil g.before) ∙ ap (λ (l : List Call). g.before ++ l) (sym d) ∙ g.calls in
-      record {
-        read = sym (add-zero place) ∙ ap (λ (k : ℕ). place + k) (sym z) ∙ g.read;
-        count = omega (arith, g.count) ∙ ap (λ (l : List Call). length l) all;
-        made = subst (λ (l : List Call). InTurn c₀ s₀ out₀ l n v c s out) all g.made;
-      }
-
-  pub progress_stop : {place left size n v : ℕ} {c : Context} {s : List ℕ} {out : List Float} → Progress c₀ s₀ words bytes out₀ place left n v c s out → 0 < left
-      → size ≡ next_size (drop place words) → size ≡ 0
-      → MakesList c₀ words bytes s₀ out₀ (record { read = place; made = length words - left; number = n; value = v; context = c }) s out
+  pub progress_stop : {place made n v : ℕ} {c : Context} {s : List ℕ} {out : List Float} → Progress c₀ s₀ words bytes out₀ place made n v c s out
+      → next_size (drop place words) ≡ 0
+      → MakesList c₀ words bytes s₀ out₀ (record { read = place; made = made; number = n; value = v; context = c }) s out
   unfolding decode_to words_to
-  progress_stop {left = zero} g h e z = absurd (omega arith)
-  progress_stop {place = place} {left = suc m} {size = size} g h e z =
+  progress_stop {place = place} {made = made} {n = n} {v = v} {c = c} {s = s} {out = out} g z =
       let room = length out₀ in
-      let f = next_none words bytes place size room e z in
-      let k = record_length (drop place words) in
-      progress_ended g (ap (λ o. onward o (λ j. j ∷ decode_to m bytes room (drop k (drop place words))) []) f)
-      (ap (λ o. onward o (λ j. k + words_to m bytes room (drop k (drop place words))) 0) f)
-
-  pub progress_done : {place left n v : ℕ} {c : Context} {s : List ℕ} {out : List Float} → Progress c₀ s₀ words bytes out₀ place left n v c s out → left ≤ 0
-      → MakesList c₀ words bytes s₀ out₀ (record { read = place; made = length words - left; number = n; value = v; context = c }) s out
-  unfolding decode_to words_to
-  progress_done {left = suc m} g h = absurd (omega arith)
-  progress_done {left = zero} g h = progress_ended g refl refl
+      let ended = none_left g.left in
+      let all : g.before ≡ decode bytes room words = sym (append-nil g.before) ∙ ap (λ (l : List Call). g.before ++ l) (sym ended.0) ∙ g.calls in
+      record {
+        read = sym (add-zero place) ∙ ap (λ (k : ℕ). place + k) (sym ended.1) ∙ g.read;
+        count = sym g.count ∙ ap (λ (l : List Call). length l) all;
+        made = subst (λ (l : List Call). InTurn c₀ s₀ out₀ l n v c s out) all g.turn;
+      }
+    where
+      none_left : (left : ℕ) → (decode_to left bytes (length out₀) (drop place words) ≡ []) × (words_to left bytes (length out₀) (drop place words) ≡ 0)
+      none_left zero = (refl, refl)
+      none_left (suc m) =
+          let f = next_none words bytes place 0 (length out₀) (sym z) refl in
+          let k = record_length (drop place words) in (
+            ap (λ o. onward o (λ j. j ∷ decode_to m bytes (length out₀) (drop k (drop place words))) []) f,
+            ap (λ o. onward o (λ j. k + words_to m bytes (length out₀) (drop k (drop place words))) 0) f,
+          )
 
 -- ---- a list after other calls from fresh
 

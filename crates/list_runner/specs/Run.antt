@@ -1,14 +1,13 @@
 -- What the function that makes the calls of a list promises.
-use Rattle.std.specs.Prelude.{List, [], ◌∷◌, ◌++◌, ◌≡◌, ℕ, length, Float}
+use Rattle.std.specs.Prelude.{List, [], ◌∷◌, ◌++◌, ◌≡◌, ℕ, length, Float, Result, Err, IsOkAnd}
+use Rattle.refusal.specs.declared.Refusal.{Refusal}
 use Rattle.buffers.specs.Objects.{store_bytes}
 use Rattle.draw.specs.Draw.{output_of}
 use Rattle.context.specs.declared.Context.{Context}
-use Rattle.context.specs.State.{Fresh}
 use Rattle.context.specs.Calls.{Call, matrix, mode, object, attribute, pipeline, take_error, draw}
 use Rattle.history.specs.Demand3.{Logs, logs, draw_replayed, History}
 use Rattle.list_records.specs.Perform.{Performed}
 use Rattle.list_runner.specs.declared.ListReply.{ListReply}
-use Rattle.list_runner.specs.declared.RunReply.{RunReply}
 use Rattle.list_runner.specs.Lists.{decode, words_read}
 
 -- ---- a list, on any context, store and output
@@ -43,9 +42,9 @@ unfoldable pub output_from : List Call → List Call → List Float → List Flo
 output_from before [] out = out
 output_from before (k ∷ l) out = output_from (before ++ (k ∷ [])) l (output_after (logs before) k out)
 
--- A store of the wrong size is refused with 1, and nothing is done. Else the calls of the list are made, up to the first words that are no record.
-pub record Runs (words bytes s : List ℕ) (out : List Float) (r : RunReply) (s1 : List ℕ) (out1 : List Float) : Type 0 where
-  pub refused : (length s ≡ store_bytes → ⊥) → (r.number ≡ 1) × (r.read ≡ 0) × Fresh r.context × (s1 ≡ s) × (out1 ≡ out)
+-- A store of the wrong size is refused, and nothing is done. Else the calls of the list are made from a fresh context, up to the first words that are no record.
+pub record Runs (words bytes s : List ℕ) (out : List Float) (r : Result ListReply Refusal) (s1 : List ℕ) (out1 : List Float) : Type 0 where
+  pub refused : (length s ≡ store_bytes → ⊥) → (r ≡ Err Refusal.Invalid) × (s1 ≡ s) × (out1 ≡ out)
   pub ran : length s ≡ store_bytes
-      → (r.number ≡ 0) × (r.read ≡ words_read bytes (length out) words)
-      × History (decode bytes (length out) words) r.context s1 × (out1 ≡ output_from [] (decode bytes (length out) words) out)
+      → IsOkAnd r (λ a. (a.read ≡ words_read bytes (length out) words) × History (decode bytes (length out) words) a.context s1)
+      × (out1 ≡ output_from [] (decode bytes (length out) words) out)

@@ -6,12 +6,13 @@ use native.Mathlib.Numerals.{add-one}
 use native.Mathlib.Omega.{arith}
 use lib.ListN.{length}
 use lib.Ieee.{Float}
+use Rattle.std.specs.Prelude.{Ok, Err}
+use Rattle.refusal.specs.declared.Refusal.{Refusal}
 use Rattle.context.specs.declared.Context.{Context}
 use Rattle.context.specs.Calls.{Call}
 use Rattle.history.specs.Demand3.{History}
 use Rattle.list_runner.specs.declared.ListReply.{ListReply}
 use Rattle.list_runner.specs.Lists.{decode}
-use Rattle.list_runner.specs.declared.RunReply.{RunReply}
 use Rattle.list_runner.specs.Run.{MakesList, output_from, Runs}
 use Rattle.list_runner.proofs.Running.{Continues, output_append, continues}
 use Rattle.list_timed.specs.Repeat.{times_of, Repeats, RunsAgain}
@@ -39,21 +40,24 @@ module _ {before : List Call} {words bytes : List ℕ} {out₀ : List Float} whe
 
 -- ---- both lists
 
-module _ {first bytes s s1 : List ℕ} {out out1 : List Float} {r : RunReply} (g : Runs first bytes s out r s1 out1) (again : List ℕ) (times : ℕ) where
-  pub again_ran : {c2 : Context} {s2 : List ℕ} {out2 : List Float} → r.number ≡ 0 → length out1 ≡ length out
+module _ {first bytes s s1 : List ℕ} {out out1 : List Float} (again : List ℕ) (times : ℕ) where
+  pub again_refused : {e : Refusal} → Runs first bytes s out (Err e) s1 out1 → RunsAgain first again times bytes s out 0 s1 out1
+  again_refused g = record { refused = λ n. let q = g.refused n in (refl, q.1, q.2); ran = λ w. absurd ((g.ran w).0) }
+
+  pub again_ran : {r : ListReply} {c2 : Context} {s2 : List ℕ} {out2 : List Float} → Runs first bytes s out (Ok r) s1 out1 → length out1 ≡ length out
       → ((l : List Call) → History l r.context s1 → Repeats l times again bytes out1 c2 s2 out2)
       → RunsAgain first again times bytes s out r.read s2 out2
-  again_ran {c2 = c2} {s2 = s2} {out2 = out2} z e p =
+  again_ran {r = r} {c2 = c2} {s2 = s2} {out2 = out2} g e p =
       record {
-        refused = λ n. let q = (g.refused n).0 in absurd (omega arith);
+        refused = λ n. let q = (g.refused n).0 in absurd (cc);
         ran =
             λ w.
             let a = decode bytes (length out) first in
             let b = times_of times (decode bytes (length out) again) in
-            let q = p a (g.ran w).2 in
+            let q = p a (g.ran w).0.1 in
             let d : times_of times (decode bytes (length out1) again) ≡ b = ap (λ (n : ℕ). times_of times (decode bytes n again)) e in (
-              (g.ran w).1,
+              (g.ran w).0.0,
               record { context = c2; history = subst (λ (l : List Call). History (a ++ l) c2 s2) d q.history },
-              q.output ∙ ap (λ (l : List Call). output_from a l out1) d ∙ ap (λ (o : List Float). output_from a b o) (g.ran w).3 ∙ sym (output_append [] a b out),
+              q.output ∙ ap (λ (l : List Call). output_from a l out1) d ∙ ap (λ (o : List Float). output_from a b o) (g.ran w).1 ∙ sym (output_append [] a b out),
             );
       }

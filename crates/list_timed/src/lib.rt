@@ -21,11 +21,8 @@ fn repeat(
         → Repeats before times words.now bytes.now out.old result store.new out.new }
 {
     let mut c = c;
-    let mut i = 0;
-    while i < times {
-        let r = list_runner::run_on(c, words, bytes, &mut store[..], &mut out[..]);
-        c = r.context;
-        i += 1;
+    for _ in 0..times {
+        c = list_runner::run_on(c, words, bytes, store, out).context;
     }
     c
 }
@@ -43,12 +40,11 @@ pub extern "C" fn beonasul_repeat(
     ensures { RunsAgain first.now again.now times bytes.now store.old out.old
         result store.new out.new }
 {
-    let r = list_runner::run(first, bytes, &mut store[..], &mut out[..]);
-    if r.number != 0 {
-        return 0;
+    match list_runner::run(first, bytes, store, out) {
+        Err(_) => 0,
+        Ok(r) => {
+            repeat(r.context, again, times, bytes, store, out);
+            r.read
+        }
     }
-    let read = r.read;
-    let c = r.context;
-    repeat(c, again, times, bytes, &mut store[..], &mut out[..]);
-    read
 }

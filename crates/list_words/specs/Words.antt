@@ -1,6 +1,6 @@
 -- Arguments as words: a number of 64 bits is two words, the low one first; an f32 is its bit pattern; a signed number is in two's complement; a switch is on where its
 -- word is 1. A word past the end is 0.
-use Rattle.std.specs.Prelude.{Bool, List, [], ◌∷◌, ℕ, ◌+◌, ◌*◌, eqb, get_or, take, drop, ℤ, Float}
+use Rattle.std.specs.Prelude.{Bool, zero, suc, List, [], ◌∷◌, ℕ, ◌+◌, ◌*◌, eqb, get_or, take, drop, ℤ, Float}
 use Rattle.std.specs.Float.{binary32}
 use Rattle.std.specs.Float.Ieee.{of_bits}
 use Rattle.number.specs.Numbers.{signed_of}
@@ -20,6 +20,11 @@ float_at w i = of_bits binary32 (word_at w i)
 
 abbrev pub switch : ℕ → Bool
 switch n = eqb n 1
+
+-- f of each of the n places from k on
+abbrev pub each_from : {A : Type 0} → (ℕ → A) → ℕ → ℕ → List A
+each_from f k zero = []
+each_from f k (suc n) = f k ∷ each_from f (suc k) n
 
 -- the first four f32, and the first sixteen
 abbrev pub four_floats : List ℕ → List Float

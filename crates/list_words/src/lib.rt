@@ -2,12 +2,12 @@
 #![tactic(auto)]
 
 ghost use Rattle.std.specs.Prelude.{◌≡◌, ◌+◌, take, drop};
-ghost use Rattle.list_words.specs.Words.{word_at, long_at, float_at, four_floats, matrix_floats, signed_at, four_signed, matrix_signed, bytes_at};
+ghost use Rattle.list_words.specs.Words.{word_at, long_at, float_at, each_from, four_floats, matrix_floats, signed_at, four_signed, matrix_signed, bytes_at};
 
 pub fn word_at(w: &[u32], i: usize) -> u32
     ensures { result ≡ word_at w.now i }
 {
-    if i < w.len() { w[i] } else { 0 }
+    w.get(i).copied().unwrap_or(0)
 }
 
 // The number of 64 bits in two words.
@@ -25,38 +25,27 @@ pub fn float_at(w: &[u32], i: usize) -> f32
     number::f32_of_bits(word_at(w, i))
 }
 
+// The first N words as f32. By a loop: the clause of `array::from_fn` leaves open the slice that its closure holds.
+fn floats<const N: usize>(w: &[u32]) -> [f32; N]
+    ensures { result ≡ each_from (float_at w.now) 0 N }
+{
+    let mut out = [0.0; N];
+    for i in 0..N {
+        out[i] = float_at(w, i);
+    }
+    out
+}
+
 pub fn four_floats(w: &[u32]) -> [f32; 4]
     ensures { result ≡ four_floats w.now }
 {
-    [
-        float_at(w, 0),
-        float_at(w, 1),
-        float_at(w, 2),
-        float_at(w, 3),
-    ]
+    floats(w)
 }
 
 pub fn matrix_floats(w: &[u32]) -> [f32; 16]
     ensures { result ≡ matrix_floats w.now }
 {
-    [
-        float_at(w, 0),
-        float_at(w, 1),
-        float_at(w, 2),
-        float_at(w, 3),
-        float_at(w, 4),
-        float_at(w, 5),
-        float_at(w, 6),
-        float_at(w, 7),
-        float_at(w, 8),
-        float_at(w, 9),
-        float_at(w, 10),
-        float_at(w, 11),
-        float_at(w, 12),
-        float_at(w, 13),
-        float_at(w, 14),
-        float_at(w, 15),
-    ]
+    floats(w)
 }
 
 // The signed number of a word.
@@ -66,46 +55,35 @@ pub fn signed_at(w: &[u32], i: usize) -> i32
     number::signed32(word_at(w, i))
 }
 
+// The first N words as signed numbers.
+fn signed_numbers<const N: usize>(w: &[u32]) -> [i32; N]
+    ensures { result ≡ each_from (signed_at w.now) 0 N }
+{
+    let mut out = [0; N];
+    for i in 0..N {
+        out[i] = signed_at(w, i);
+    }
+    out
+}
+
 pub fn four_signed(w: &[u32]) -> [i32; 4]
     ensures { result ≡ four_signed w.now }
 {
-    [
-        signed_at(w, 0),
-        signed_at(w, 1),
-        signed_at(w, 2),
-        signed_at(w, 3),
-    ]
+    signed_numbers(w)
 }
 
 pub fn matrix_signed(w: &[u32]) -> [i32; 16]
     ensures { result ≡ matrix_signed w.now }
 {
-    [
-        signed_at(w, 0),
-        signed_at(w, 1),
-        signed_at(w, 2),
-        signed_at(w, 3),
-        signed_at(w, 4),
-        signed_at(w, 5),
-        signed_at(w, 6),
-        signed_at(w, 7),
-        signed_at(w, 8),
-        signed_at(w, 9),
-        signed_at(w, 10),
-        signed_at(w, 11),
-        signed_at(w, 12),
-        signed_at(w, 13),
-        signed_at(w, 14),
-        signed_at(w, 15),
-    ]
+    signed_numbers(w)
 }
 
 // n bytes from a place on, or as many as there are.
 pub fn bytes_at<'a>(bytes: &'a [u8], place: usize, n: usize) -> &'a [u8]
     ensures { result.now ≡ bytes_at bytes.now place n }
 {
-    let start = number::smaller(place, bytes.len());
-    let end = start + number::smaller(n, bytes.len() - start);
+    let start = place.min(bytes.len());
+    let end = start + n.min(bytes.len() - start);
     &bytes[start..end]
 }
 
@@ -120,7 +98,7 @@ pub fn part_at<'a>(bytes: &'a [u8], w: &[u32], i: u16) -> &'a [u8]
 pub fn words_from<'a>(w: &'a [u32], n: usize) -> &'a [u32]
     ensures { result.now ≡ drop n w.now }
 {
-    let start = number::smaller(n, w.len());
+    let start = n.min(w.len());
     &w[start..]
 }
 
@@ -128,6 +106,6 @@ pub fn words_from<'a>(w: &'a [u32], n: usize) -> &'a [u32]
 pub fn first_words<'a>(w: &'a [u32], n: usize) -> &'a [u32]
     ensures { result.now ≡ take n w.now }
 {
-    let end = number::smaller(n, w.len());
+    let end = n.min(w.len());
     &w[..end]
 }

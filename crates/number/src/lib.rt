@@ -1,7 +1,7 @@
 // Bytes and whole numbers to f32, and f32 to and from their bit patterns.
 #![tactic(auto)]
 
-ghost use Rattle.std.specs.Prelude.{◌≡◌, ◌<◌, min, [], ◌∷◌, pos, from_bits, to_bits};
+ghost use Rattle.std.specs.Prelude.{◌≡◌, ◌<◌, [], ◌∷◌, pos, from_bits, to_bits};
 ghost use Rattle.std.specs.Float.{binary32};
 ghost use Rattle.number.specs.F32.{nearest};
 ghost use Rattle.number.specs.Numbers.{little_endian, signed_of, fixed, clamped, clamped_unit, unorm, snorm, magnitude, whole_part};
@@ -10,30 +10,19 @@ ghost use Rattle.number.specs.Numbers.{little_endian, signed_of, fixed, clamped,
 pub fn le16(a: u8, b: u8) -> u16
     ensures { result ≡ little_endian (a ∷ b ∷ []) }
 {
-    (a as u16) + 256 * (b as u16)
+    u16::from_le_bytes([a, b])
 }
 
 pub fn le32(a: u8, b: u8, c: u8, d: u8) -> u32
     ensures { result ≡ little_endian (a ∷ b ∷ c ∷ d ∷ []) }
 {
-    (a as u32) + 256 * ((b as u32) + 256 * ((c as u32) + 256 * (d as u32)))
+    u32::from_le_bytes([a, b, c, d])
 }
 
 pub fn signed32(n: u32) -> i32
     ensures { result ≡ signed_of 32 n }
 {
-    if n < 0x8000_0000 {
-        n as i32
-    } else {
-        -1 - ((0x7fff_ffff - (n - 0x8000_0000)) as i32)
-    }
-}
-
-// The smaller of two numbers.
-pub fn smaller(a: usize, b: usize) -> usize
-    ensures { result ≡ min a b }
-{
-    if a < b { a } else { b }
+    n.cast_signed()
 }
 
 // The f32 equal to a number of 16 bits.
@@ -56,7 +45,7 @@ pub fn fixed_to_f32(v: i32) -> f32
     std::num::nearest_i32_to_f32(v) / 65536.0
 }
 
-// x held within lo to hi; a NaN stays.
+// x held within lo to hi; a NaN stays. (The library's `clamp` asks for lo at most hi.)
 pub fn clamp(x: f32, lo: f32, hi: f32) -> f32
     ensures { result ≡ clamped lo hi x }
 {
@@ -89,12 +78,12 @@ pub fn snorm_to_f32(v: i16, max: u16) -> f32
     clamp(i16_to_f32(v) / u16_to_f32(max), -1.0, 1.0)
 }
 
-// The f32 of a bit pattern; every NaN pattern gives a NaN.
+// The f32 of a bit pattern; every NaN pattern gives a NaN. (`f32::from_bits` asks for the pattern of no NaN, and `to_bits` for no NaN.)
 pub fn f32_of_bits(n: u32) -> f32
     ensures { result ≡ from_bits binary32 n }
 {
     if 0x7f80_0000 < n % 0x8000_0000 {
-        0.0 / 0.0
+        f32::NAN
     } else {
         f32::from_bits(n)
     }
@@ -104,7 +93,11 @@ pub fn f32_of_bits(n: u32) -> f32
 pub fn bits_of_f32(x: f32) -> u32
     ensures { result ≡ to_bits binary32 x }
 {
-    if x != x { 0x7fc0_0000 } else { f32::to_bits(x) }
+    if x.is_nan() {
+        0x7fc0_0000
+    } else {
+        f32::to_bits(x)
+    }
 }
 
 // x with its sign bit cleared: by the bit pattern, since a branch on the sign of a coordinate is hard to predict.
@@ -118,11 +111,5 @@ pub fn abs(x: f32) -> f32
 pub fn whole_u32(x: f32) -> u32
     ensures { result ≡ whole_part x }
 {
-    if x > -1.0 {
-        if x < 4294967296.0 {
-            return std::num::truncating_f32_to_u64(x) as u32;
-        }
-        return 0xffff_ffff;
-    }
-    0
+    std::num::saturating_f32_to_u32(x)
 }

@@ -10,12 +10,6 @@ use Rattle.pipeline.specs.declared.FogMode.{FogMode}
 use Rattle.pipeline.specs.declared.TexEnvMode.{TexEnvMode}
 use Rattle.pipeline.specs.declared.Capability.{Capability}
 use Rattle.pipeline.specs.declared.FogParameter.{FogParameter}
-use Rattle.pipeline.specs.declared.CompareChoice.{CompareChoice}
-use Rattle.pipeline.specs.declared.BlendChoice.{BlendChoice}
-use Rattle.pipeline.specs.declared.CullChoice.{CullChoice}
-use Rattle.pipeline.specs.declared.FaceChoice.{FaceChoice}
-use Rattle.pipeline.specs.declared.FogChoice.{FogChoice}
-use Rattle.pipeline.specs.declared.EnvChoice.{EnvChoice}
 
 abbrev pub compare_funcs : List (Row CompareFunc)
 compare_funcs =
@@ -72,9 +66,6 @@ fog_parameters =
     ∷ 0x0B65 names FogParameter.Mode
     ∷ []
 
-abbrev pub fog_parameter_of : ℕ → FogParameter
-fog_parameter_of code = get_or (lookup fog_parameters code) FogParameter.Unknown
-
 abbrev pub switches : List (Row Capability)
 switches =
     0x0B71 names Capability.DepthTest
@@ -101,30 +92,51 @@ ignored =
 abbrev pub in_ignored_range : ℕ → Bool
 in_ignored_range cap = leb 0x4000 cap && leb cap 0x400F
 
-abbrev pub capability_of : ℕ → Capability
-capability_of cap = cond (in_ignored_range cap) Capability.Ignored (get_or (lookup (switches ++ ignored) cap) Capability.Unknown)
+abbrev pub capability_of : ℕ → Option Capability
+capability_of cap = cond (in_ignored_range cap) (some Capability.Ignored) (lookup (switches ++ ignored) cap)
 
--- the code's answers: a choice, or none
-abbrev pub compare_of : CompareChoice → Option CompareFunc
-compare_of (CompareChoice.Known a) = some a
-compare_of CompareChoice.Unknown = none
+-- ---- a choice's number
 
-abbrev pub blend_of : BlendChoice → Option BlendFactor
-blend_of (BlendChoice.Known a) = some a
-blend_of BlendChoice.Unknown = none
+abbrev pub compare_code : CompareFunc → ℕ
+compare_code CompareFunc.Never = 0x0200
+compare_code CompareFunc.Less = 0x0201
+compare_code CompareFunc.Equal = 0x0202
+compare_code CompareFunc.Lequal = 0x0203
+compare_code CompareFunc.Greater = 0x0204
+compare_code CompareFunc.Notequal = 0x0205
+compare_code CompareFunc.Gequal = 0x0206
+compare_code CompareFunc.Always = 0x0207
 
-abbrev pub cull_of : CullChoice → Option CullMode
-cull_of (CullChoice.Known a) = some a
-cull_of CullChoice.Unknown = none
+abbrev pub blend_code : BlendFactor → ℕ
+blend_code BlendFactor.Zero = 0
+blend_code BlendFactor.One = 1
+blend_code BlendFactor.SrcColor = 0x0300
+blend_code BlendFactor.OneMinusSrcColor = 0x0301
+blend_code BlendFactor.SrcAlpha = 0x0302
+blend_code BlendFactor.OneMinusSrcAlpha = 0x0303
+blend_code BlendFactor.DstAlpha = 0x0304
+blend_code BlendFactor.OneMinusDstAlpha = 0x0305
+blend_code BlendFactor.DstColor = 0x0306
+blend_code BlendFactor.OneMinusDstColor = 0x0307
+blend_code BlendFactor.SrcAlphaSaturate = 0x0308
 
-abbrev pub face_of : FaceChoice → Option FrontFace
-face_of (FaceChoice.Known a) = some a
-face_of FaceChoice.Unknown = none
+abbrev pub cull_code : CullMode → ℕ
+cull_code CullMode.Front = 0x0404
+cull_code CullMode.Back = 0x0405
+cull_code CullMode.FrontAndBack = 0x0408
 
-abbrev pub fog_of : FogChoice → Option FogMode
-fog_of (FogChoice.Known a) = some a
-fog_of FogChoice.Unknown = none
+abbrev pub face_code : FrontFace → ℕ
+face_code FrontFace.Cw = 0x0900
+face_code FrontFace.Ccw = 0x0901
 
-abbrev pub env_of : EnvChoice → Option TexEnvMode
-env_of (EnvChoice.Known a) = some a
-env_of EnvChoice.Unknown = none
+abbrev pub fog_code : FogMode → ℕ
+fog_code FogMode.Exp = 0x0800
+fog_code FogMode.Exp2 = 0x0801
+fog_code FogMode.Linear = 0x2601
+
+abbrev pub env_code : TexEnvMode → ℕ
+env_code TexEnvMode.Modulate = 0x2100
+env_code TexEnvMode.Replace = 0x1E01
+env_code TexEnvMode.Decal = 0x2101
+env_code TexEnvMode.Blend = 0x0BE2
+env_code TexEnvMode.Add = 0x0104

@@ -18,9 +18,9 @@ use Rattle.pipeline.specs.declared.CullState.{CullState}
 use Rattle.pipeline.specs.declared.FogState.{FogState}
 use Rattle.pipeline.specs.declared.TextureUnit.{TextureUnit}
 use Rattle.pipeline.specs.declared.Pipeline.{Pipeline}
-use Rattle.pipeline.specs.declared.PipelineAnswer.{PipelineAnswer}
+use Rattle.refusal.specs.Refusals.{Answer, answer}
 use Rattle.number.specs.Tables.{lookup}
-use Rattle.pipeline.specs.Enums.{compare_funcs, blend_factors, cull_modes, front_faces, fog_modes, tex_env_modes, fog_parameter_of, capability_of}
+use Rattle.pipeline.specs.Enums.{compare_funcs, blend_factors, cull_modes, front_faces, fog_modes, tex_env_modes, fog_parameters, capability_of}
 
 -- ---- at first
 
@@ -107,7 +107,6 @@ switched Capability.CullFace on p = some (with_cull (record { enabled = on; mode
 switched Capability.Texture2D on p = put_unit (record { enabled = on; env_mode = (active_unit p).env_mode; env_color = (active_unit p).env_color }) p
 switched Capability.Fog on p = some (with_fog (record { enabled = on; mode = p.fog.mode; density = p.fog.density; start = p.fog.start; end = p.fog.end }) p)
 switched Capability.Ignored on p = some p
-switched Capability.Unknown on p = none
 
 -- a fog value set; a mode counts by its whole part
 abbrev pub fog_set : FogParameter → Float → Pipeline → Option Pipeline
@@ -117,12 +116,11 @@ fog_set FogParameter.Mode v p =
 fog_set FogParameter.Density v p = some (with_fog (record { enabled = p.fog.enabled; mode = p.fog.mode; density = v; start = p.fog.start; end = p.fog.end }) p)
 fog_set FogParameter.Start v p = some (with_fog (record { enabled = p.fog.enabled; mode = p.fog.mode; density = p.fog.density; start = v; end = p.fog.end }) p)
 fog_set FogParameter.End v p = some (with_fog (record { enabled = p.fog.enabled; mode = p.fog.mode; density = p.fog.density; start = p.fog.start; end = v }) p)
-fog_set FogParameter.Unknown v p = none
 
 -- the settings after a call, or none where it is refused: an unknown enumerant, or a unit from 4 on
 unfoldable pub accepted_pipeline : PipelineCall → Pipeline → Option Pipeline
 accepted_pipeline (active_texture unit) p = cond (ltb unit 4) (some (with_active unit p)) none
-accepted_pipeline (capability cap on) p = switched (capability_of cap) on p
+accepted_pipeline (capability cap on) p = bind (capability_of cap) (λ what. switched what on p)
 -- another pname than TEXTURE_ENV_MODE does nothing
 accepted_pipeline (tex_env pname value) p =
     cond (eqb pname 0x2200)
@@ -140,21 +138,15 @@ accepted_pipeline (blend_func src dst) p =
     (λ s. map (λ d. with_blend (record { enabled = p.blend.enabled; src = s; dst = d }) p) (lookup blend_factors dst))
 accepted_pipeline (cull_face mode) p = map (λ m. with_cull (record { enabled = p.cull.enabled; mode = m }) p) (lookup cull_modes mode)
 accepted_pipeline (front_face mode) p = map (λ f. with_face f p) (lookup front_faces mode)
-accepted_pipeline (fog pname value) p = fog_set (fog_parameter_of pname) value p
+accepted_pipeline (fog pname value) p = bind (lookup fog_parameters pname) (λ what. fog_set what value p)
 
 -- ---- the answers
 
-abbrev pub pipeline_done : Pipeline → PipelineAnswer
-pipeline_done p = record { number = 0; pipeline = p }
-
 -- a refusal changes nothing
-abbrev pub pipeline_refused : Pipeline → PipelineAnswer
-pipeline_refused p = record { number = 0x0500; pipeline = p }
-
-abbrev pub pipeline_answered : Option Pipeline → Pipeline → PipelineAnswer
-pipeline_answered (some q) p = pipeline_done q
-pipeline_answered none p = pipeline_refused p
+abbrev pub pipeline_answered : Option Pipeline → Pipeline → Answer Pipeline
+pipeline_answered (some q) p = answer 0 q
+pipeline_answered none p = answer 0x0500 p
 
 -- a call's number, and the settings after it
-unfoldable pub pipeline_step : PipelineCall → Pipeline → PipelineAnswer
+unfoldable pub pipeline_step : PipelineCall → Pipeline → Answer Pipeline
 pipeline_step call p = pipeline_answered (accepted_pipeline call p) p

@@ -2,15 +2,18 @@
 #![tactic(auto)]
 
 ghost use Rattle.std.specs.Prelude.{◌≡◌};
-ghost use Rattle.number.specs.Tables.{lookup};
-ghost use Rattle.pipeline.specs.Enums.{compare_funcs, blend_factors, cull_modes, front_faces, fog_modes, tex_env_modes, compare_of, blend_of, cull_of};
-ghost use Rattle.pipeline.specs.Enums.{face_of, fog_of, env_of, capability_of, fog_parameter_of};
-ghost use Rattle.pipeline.specs.Pipeline.{fresh_unit, fresh_pipeline, pipeline_done, pipeline_refused, pipeline_answered, active_unit, put_unit, fog_set};
+ghost use Rattle.refusal.specs.Refusals.{answer, answered};
+ghost use Rattle.refusal.specs.Enumerants.{found, Decodes};
+ghost use Rattle.pipeline.specs.Enums.{compare_funcs, blend_factors, cull_modes, front_faces, fog_modes, tex_env_modes, capability_of, fog_parameters};
+ghost use Rattle.pipeline.specs.Enums.{compare_code, blend_code, cull_code, face_code, fog_code, env_code};
+ghost use Rattle.pipeline.specs.Pipeline.{fresh_unit, fresh_pipeline, pipeline_answered, active_unit, put_unit};
 ghost use Rattle.pipeline.specs.Pipeline.{pipeline_step, active_texture, capability};
 ghost use Rattle.pipeline.specs.Pipeline.{tex_env, tex_env_color, depth_func, depth_range, alpha_func, blend_func, cull_face, front_face, fog};
 
+use refusal::{Refusal, UnknownEnum};
+
 // What depth and alpha are compared by.
-#[derive(Clone, Copy)]
+#[derive(Clone, Copy, Debug, PartialEq, Eq)]
 pub enum CompareFunc {
     Never,
     Less,
@@ -22,7 +25,7 @@ pub enum CompareFunc {
     Always,
 }
 
-#[derive(Clone, Copy)]
+#[derive(Clone, Copy, Debug, PartialEq, Eq)]
 pub enum BlendFactor {
     Zero,
     One,
@@ -38,7 +41,7 @@ pub enum BlendFactor {
 }
 
 // Which faces are dropped.
-#[derive(Clone, Copy)]
+#[derive(Clone, Copy, Debug, PartialEq, Eq)]
 pub enum CullMode {
     Front,
     Back,
@@ -46,13 +49,13 @@ pub enum CullMode {
 }
 
 // The winding of a front face.
-#[derive(Clone, Copy)]
+#[derive(Clone, Copy, Debug, PartialEq, Eq)]
 pub enum FrontFace {
     Cw,
     Ccw,
 }
 
-#[derive(Clone, Copy)]
+#[derive(Clone, Copy, Debug, PartialEq, Eq)]
 pub enum FogMode {
     Linear,
     Exp,
@@ -60,7 +63,7 @@ pub enum FogMode {
 }
 
 // How a texture's colour is combined with the fragment's.
-#[derive(Clone, Copy)]
+#[derive(Clone, Copy, Debug, PartialEq, Eq)]
 pub enum TexEnvMode {
     Modulate,
     Replace,
@@ -70,7 +73,7 @@ pub enum TexEnvMode {
 }
 
 // What a capability number switches. Ignored ones are accepted and change nothing.
-#[derive(Clone, Copy)]
+#[derive(Clone, Copy, Debug, PartialEq, Eq)]
 pub enum Capability {
     DepthTest,
     AlphaTest,
@@ -79,17 +82,15 @@ pub enum Capability {
     Texture2D,
     Fog,
     Ignored,
-    Unknown,
 }
 
 // What a fog call sets.
-#[derive(Clone, Copy)]
+#[derive(Clone, Copy, Debug, PartialEq, Eq)]
 pub enum FogParameter {
     Mode,
     Density,
     Start,
     End,
-    Unknown,
 }
 
 #[derive(Clone, Copy)]
@@ -149,495 +150,423 @@ pub struct Pipeline {
     pub fog: FogState,
 }
 
-// What a call answers: 0 for done or 0x0500 for refused, and the settings after it.
-#[derive(Clone, Copy)]
-pub struct PipelineAnswer {
-    pub number: u32,
-    pub pipeline: Pipeline,
-}
+// ---- the choice that a number stands for
 
-// A number that stands for a choice, or for none.
-#[derive(Clone, Copy)]
-pub enum CompareChoice {
-    Known(CompareFunc),
-    Unknown,
-}
+impl TryFrom<u32> for CompareFunc {
+    type Error = UnknownEnum;
 
-#[derive(Clone, Copy)]
-pub enum BlendChoice {
-    Known(BlendFactor),
-    Unknown,
-}
+    ghost try_from_gives = { λ code r. Decodes compare_funcs code r };
 
-#[derive(Clone, Copy)]
-pub enum CullChoice {
-    Known(CullMode),
-    Unknown,
-}
-
-#[derive(Clone, Copy)]
-pub enum FaceChoice {
-    Known(FrontFace),
-    Unknown,
-}
-
-#[derive(Clone, Copy)]
-pub enum FogChoice {
-    Known(FogMode),
-    Unknown,
-}
-
-#[derive(Clone, Copy)]
-pub enum EnvChoice {
-    Known(TexEnvMode),
-    Unknown,
-}
-
-// The choice that a number stands for.
-fn compare_func(code: u32) -> CompareChoice
-    ensures { compare_of result ≡ lookup compare_funcs code }
-{
-    match code {
-        0x0200 => CompareChoice::Known(CompareFunc::Never),
-        0x0201 => CompareChoice::Known(CompareFunc::Less),
-        0x0202 => CompareChoice::Known(CompareFunc::Equal),
-        0x0203 => CompareChoice::Known(CompareFunc::Lequal),
-        0x0204 => CompareChoice::Known(CompareFunc::Greater),
-        0x0205 => CompareChoice::Known(CompareFunc::Notequal),
-        0x0206 => CompareChoice::Known(CompareFunc::Gequal),
-        0x0207 => CompareChoice::Known(CompareFunc::Always),
-        _ => CompareChoice::Unknown,
+    fn try_from(code: u32) -> Result<Self, UnknownEnum> {
+        match code {
+            0x0200 => Ok(CompareFunc::Never),
+            0x0201 => Ok(CompareFunc::Less),
+            0x0202 => Ok(CompareFunc::Equal),
+            0x0203 => Ok(CompareFunc::Lequal),
+            0x0204 => Ok(CompareFunc::Greater),
+            0x0205 => Ok(CompareFunc::Notequal),
+            0x0206 => Ok(CompareFunc::Gequal),
+            0x0207 => Ok(CompareFunc::Always),
+            _ => Err(UnknownEnum),
+        }
     }
 }
 
-fn blend_factor(code: u32) -> BlendChoice
-    ensures { blend_of result ≡ lookup blend_factors code }
-{
-    match code {
-        0 => BlendChoice::Known(BlendFactor::Zero),
-        1 => BlendChoice::Known(BlendFactor::One),
-        0x0300 => BlendChoice::Known(BlendFactor::SrcColor),
-        0x0301 => BlendChoice::Known(BlendFactor::OneMinusSrcColor),
-        0x0302 => BlendChoice::Known(BlendFactor::SrcAlpha),
-        0x0303 => BlendChoice::Known(BlendFactor::OneMinusSrcAlpha),
-        0x0304 => BlendChoice::Known(BlendFactor::DstAlpha),
-        0x0305 => BlendChoice::Known(BlendFactor::OneMinusDstAlpha),
-        0x0306 => BlendChoice::Known(BlendFactor::DstColor),
-        0x0307 => BlendChoice::Known(BlendFactor::OneMinusDstColor),
-        0x0308 => BlendChoice::Known(BlendFactor::SrcAlphaSaturate),
-        _ => BlendChoice::Unknown,
+impl TryFrom<u32> for BlendFactor {
+    type Error = UnknownEnum;
+
+    ghost try_from_gives = { λ code r. Decodes blend_factors code r };
+
+    fn try_from(code: u32) -> Result<Self, UnknownEnum> {
+        match code {
+            0 => Ok(BlendFactor::Zero),
+            1 => Ok(BlendFactor::One),
+            0x0300 => Ok(BlendFactor::SrcColor),
+            0x0301 => Ok(BlendFactor::OneMinusSrcColor),
+            0x0302 => Ok(BlendFactor::SrcAlpha),
+            0x0303 => Ok(BlendFactor::OneMinusSrcAlpha),
+            0x0304 => Ok(BlendFactor::DstAlpha),
+            0x0305 => Ok(BlendFactor::OneMinusDstAlpha),
+            0x0306 => Ok(BlendFactor::DstColor),
+            0x0307 => Ok(BlendFactor::OneMinusDstColor),
+            0x0308 => Ok(BlendFactor::SrcAlphaSaturate),
+            _ => Err(UnknownEnum),
+        }
     }
 }
 
-fn cull_mode(code: u32) -> CullChoice
-    ensures { cull_of result ≡ lookup cull_modes code }
-{
-    match code {
-        0x0404 => CullChoice::Known(CullMode::Front),
-        0x0405 => CullChoice::Known(CullMode::Back),
-        0x0408 => CullChoice::Known(CullMode::FrontAndBack),
-        _ => CullChoice::Unknown,
+impl TryFrom<u32> for CullMode {
+    type Error = UnknownEnum;
+
+    ghost try_from_gives = { λ code r. Decodes cull_modes code r };
+
+    fn try_from(code: u32) -> Result<Self, UnknownEnum> {
+        match code {
+            0x0404 => Ok(CullMode::Front),
+            0x0405 => Ok(CullMode::Back),
+            0x0408 => Ok(CullMode::FrontAndBack),
+            _ => Err(UnknownEnum),
+        }
     }
 }
 
-fn front_face(code: u32) -> FaceChoice
-    ensures { face_of result ≡ lookup front_faces code }
-{
-    match code {
-        0x0900 => FaceChoice::Known(FrontFace::Cw),
-        0x0901 => FaceChoice::Known(FrontFace::Ccw),
-        _ => FaceChoice::Unknown,
+impl TryFrom<u32> for FrontFace {
+    type Error = UnknownEnum;
+
+    ghost try_from_gives = { λ code r. Decodes front_faces code r };
+
+    fn try_from(code: u32) -> Result<Self, UnknownEnum> {
+        match code {
+            0x0900 => Ok(FrontFace::Cw),
+            0x0901 => Ok(FrontFace::Ccw),
+            _ => Err(UnknownEnum),
+        }
     }
 }
 
-fn fog_mode(code: u32) -> FogChoice
-    ensures { fog_of result ≡ lookup fog_modes code }
-{
-    match code {
-        0x0800 => FogChoice::Known(FogMode::Exp),
-        0x0801 => FogChoice::Known(FogMode::Exp2),
-        0x2601 => FogChoice::Known(FogMode::Linear),
-        _ => FogChoice::Unknown,
+impl TryFrom<u32> for FogMode {
+    type Error = UnknownEnum;
+
+    ghost try_from_gives = { λ code r. Decodes fog_modes code r };
+
+    fn try_from(code: u32) -> Result<Self, UnknownEnum> {
+        match code {
+            0x0800 => Ok(FogMode::Exp),
+            0x0801 => Ok(FogMode::Exp2),
+            0x2601 => Ok(FogMode::Linear),
+            _ => Err(UnknownEnum),
+        }
     }
 }
 
-fn tex_env_mode(code: u32) -> EnvChoice
-    ensures { env_of result ≡ lookup tex_env_modes code }
-{
-    match code {
-        0x2100 => EnvChoice::Known(TexEnvMode::Modulate),
-        0x1E01 => EnvChoice::Known(TexEnvMode::Replace),
-        0x2101 => EnvChoice::Known(TexEnvMode::Decal),
-        0x0BE2 => EnvChoice::Known(TexEnvMode::Blend),
-        0x0104 => EnvChoice::Known(TexEnvMode::Add),
-        0x8570 => EnvChoice::Known(TexEnvMode::Modulate),
-        _ => EnvChoice::Unknown,
+impl TryFrom<u32> for TexEnvMode {
+    type Error = UnknownEnum;
+
+    ghost try_from_gives = { λ code r. Decodes tex_env_modes code r };
+
+    fn try_from(code: u32) -> Result<Self, UnknownEnum> {
+        match code {
+            0x2100 => Ok(TexEnvMode::Modulate),
+            0x1E01 => Ok(TexEnvMode::Replace),
+            0x2101 => Ok(TexEnvMode::Decal),
+            0x0BE2 => Ok(TexEnvMode::Blend),
+            0x0104 => Ok(TexEnvMode::Add),
+            0x8570 => Ok(TexEnvMode::Modulate),
+            _ => Err(UnknownEnum),
+        }
     }
 }
 
-// What a number of a fog call or of a capability stands for.
-fn fog_parameter(code: u32) -> FogParameter
-    ensures { result ≡ fog_parameter_of code }
-{
-    match code {
-        0x0B62 => FogParameter::Density,
-        0x0B63 => FogParameter::Start,
-        0x0B64 => FogParameter::End,
-        0x0B65 => FogParameter::Mode,
-        _ => FogParameter::Unknown,
+impl TryFrom<u32> for FogParameter {
+    type Error = UnknownEnum;
+
+    ghost try_from_gives = { λ code r. Decodes fog_parameters code r };
+
+    fn try_from(code: u32) -> Result<Self, UnknownEnum> {
+        match code {
+            0x0B62 => Ok(FogParameter::Density),
+            0x0B63 => Ok(FogParameter::Start),
+            0x0B64 => Ok(FogParameter::End),
+            0x0B65 => Ok(FogParameter::Mode),
+            _ => Err(UnknownEnum),
+        }
     }
 }
 
-fn capability_of(cap: u32) -> Capability
-    ensures { result ≡ capability_of cap }
-{
-    match cap {
-        0x0B71 => Capability::DepthTest,
-        0x0BC0 => Capability::AlphaTest,
-        0x0BE2 => Capability::Blend,
-        0x0B44 => Capability::CullFace,
-        0x0DE1 => Capability::Texture2D,
-        0x0B60 => Capability::Fog,
-        0x0C11 | 0x0B50 | 0x0BD0 | 0x0BA1 | 0x0B90 | 0x0B57 | 0x8037 => Capability::Ignored,
-        0x4000..=0x400F => Capability::Ignored,
-        _ => Capability::Unknown,
+impl TryFrom<u32> for Capability {
+    type Error = UnknownEnum;
+
+    ghost try_from_gives = { λ code r. found r ≡ capability_of code };
+
+    fn try_from(code: u32) -> Result<Self, UnknownEnum> {
+        match code {
+            0x0B71 => Ok(Capability::DepthTest),
+            0x0BC0 => Ok(Capability::AlphaTest),
+            0x0BE2 => Ok(Capability::Blend),
+            0x0B44 => Ok(Capability::CullFace),
+            0x0DE1 => Ok(Capability::Texture2D),
+            0x0B60 => Ok(Capability::Fog),
+            0x0C11 | 0x0B50 | 0x0BD0 | 0x0BA1 | 0x0B90 | 0x0B57 | 0x8037 => Ok(Capability::Ignored),
+            0x4000..=0x400F => Ok(Capability::Ignored),
+            _ => Err(UnknownEnum),
+        }
     }
 }
 
-// The settings at first.
-fn fresh_unit() -> TextureUnit
-    ensures { result ≡ fresh_unit }
-{
-    TextureUnit {
-        enabled: false,
-        env_mode: TexEnvMode::Modulate,
-        env_color: [0.0, 0.0, 0.0, 0.0],
+// ---- the number of a choice
+
+impl From<CompareFunc> for u32 {
+    ghost from_gives = { λ a code. code ≡ compare_code a };
+
+    fn from(a: CompareFunc) -> u32 {
+        match a {
+            CompareFunc::Never => 0x0200,
+            CompareFunc::Less => 0x0201,
+            CompareFunc::Equal => 0x0202,
+            CompareFunc::Lequal => 0x0203,
+            CompareFunc::Greater => 0x0204,
+            CompareFunc::Notequal => 0x0205,
+            CompareFunc::Gequal => 0x0206,
+            CompareFunc::Always => 0x0207,
+        }
     }
 }
 
-pub fn fresh_pipeline() -> Pipeline
-    ensures { result ≡ fresh_pipeline }
-{
-    let u = fresh_unit();
-    Pipeline {
-        active_texture: 0,
-        units: [u, u, u, u],
-        depth: DepthState {
-            test: false,
-            func: CompareFunc::Less,
-            near: 0.0,
-            far: 1.0,
-        },
-        alpha: AlphaState {
-            test: false,
-            func: CompareFunc::Always,
-            reference: 0.0,
-        },
-        blend: BlendState {
+impl From<BlendFactor> for u32 {
+    ghost from_gives = { λ a code. code ≡ blend_code a };
+
+    fn from(a: BlendFactor) -> u32 {
+        match a {
+            BlendFactor::Zero => 0,
+            BlendFactor::One => 1,
+            BlendFactor::SrcColor => 0x0300,
+            BlendFactor::OneMinusSrcColor => 0x0301,
+            BlendFactor::SrcAlpha => 0x0302,
+            BlendFactor::OneMinusSrcAlpha => 0x0303,
+            BlendFactor::DstAlpha => 0x0304,
+            BlendFactor::OneMinusDstAlpha => 0x0305,
+            BlendFactor::DstColor => 0x0306,
+            BlendFactor::OneMinusDstColor => 0x0307,
+            BlendFactor::SrcAlphaSaturate => 0x0308,
+        }
+    }
+}
+
+impl From<CullMode> for u32 {
+    ghost from_gives = { λ a code. code ≡ cull_code a };
+
+    fn from(a: CullMode) -> u32 {
+        match a {
+            CullMode::Front => 0x0404,
+            CullMode::Back => 0x0405,
+            CullMode::FrontAndBack => 0x0408,
+        }
+    }
+}
+
+impl From<FrontFace> for u32 {
+    ghost from_gives = { λ a code. code ≡ face_code a };
+
+    fn from(a: FrontFace) -> u32 {
+        match a {
+            FrontFace::Cw => 0x0900,
+            FrontFace::Ccw => 0x0901,
+        }
+    }
+}
+
+impl From<FogMode> for u32 {
+    ghost from_gives = { λ a code. code ≡ fog_code a };
+
+    fn from(a: FogMode) -> u32 {
+        match a {
+            FogMode::Exp => 0x0800,
+            FogMode::Exp2 => 0x0801,
+            FogMode::Linear => 0x2601,
+        }
+    }
+}
+
+impl From<TexEnvMode> for u32 {
+    ghost from_gives = { λ a code. code ≡ env_code a };
+
+    fn from(a: TexEnvMode) -> u32 {
+        match a {
+            TexEnvMode::Modulate => 0x2100,
+            TexEnvMode::Replace => 0x1E01,
+            TexEnvMode::Decal => 0x2101,
+            TexEnvMode::Blend => 0x0BE2,
+            TexEnvMode::Add => 0x0104,
+        }
+    }
+}
+
+// ---- the settings
+
+impl TextureUnit {
+    // A unit at first.
+    fn new() -> TextureUnit
+        ensures { result ≡ fresh_unit }
+    {
+        TextureUnit {
             enabled: false,
-            src: BlendFactor::One,
-            dst: BlendFactor::Zero,
-        },
-        cull: CullState {
-            enabled: false,
-            mode: CullMode::Back,
-        },
-        front_face: FrontFace::Ccw,
-        fog: FogState {
-            enabled: false,
-            mode: FogMode::Exp,
-            density: 1.0,
-            start: 0.0,
-            end: 1.0,
-        },
-    }
-}
-
-// The two answers of a call.
-fn accept(p: Pipeline) -> PipelineAnswer
-    ensures { result ≡ pipeline_done p }
-{
-    PipelineAnswer {
-        number: 0,
-        pipeline: p,
-    }
-}
-
-fn refuse(p: Pipeline) -> PipelineAnswer
-    ensures { result ≡ pipeline_refused p }
-{
-    PipelineAnswer {
-        number: 0x0500,
-        pipeline: p,
-    }
-}
-
-// The unit that the calls on a texture unit go to, and the settings with it replaced.
-fn active_unit(p: Pipeline) -> TextureUnit
-    ensures { result ≡ active_unit p }
-{
-    let i = p.active_texture as usize;
-    if i < 4 {
-        return p.units[i];
-    }
-    fresh_unit()
-}
-
-fn put_active_unit(p: Pipeline, u: TextureUnit) -> PipelineAnswer
-    ensures { result ≡ pipeline_answered (put_unit u p) p }
-{
-    let i = p.active_texture as usize;
-    if i < 4 {
-        let mut q = p;
-        q.units[i] = u;
-        return accept(q);
-    }
-    refuse(p)
-}
-
-pub fn set_active_texture(p: Pipeline, unit: u32) -> PipelineAnswer
-    ensures { result ≡ pipeline_step (active_texture unit) p }
-{
-    if unit < 4 {
-        let mut q = p;
-        q.active_texture = unit;
-        return accept(q);
-    }
-    refuse(p)
-}
-
-pub fn set_capability(p: Pipeline, cap: u32, on: bool) -> PipelineAnswer
-    ensures { result ≡ pipeline_step (capability cap on) p }
-{
-    let mut q = p;
-    let what = capability_of(cap);
-    match what {
-        Capability::DepthTest => {
-            q.depth.test = on;
-            accept(q)
+            env_mode: TexEnvMode::Modulate,
+            env_color: [0.0; 4],
         }
-        Capability::AlphaTest => {
-            q.alpha.test = on;
-            accept(q)
-        }
-        Capability::Blend => {
-            q.blend.enabled = on;
-            accept(q)
-        }
-        Capability::CullFace => {
-            q.cull.enabled = on;
-            accept(q)
-        }
-        Capability::Texture2D => {
-            let mut u = active_unit(p);
-            u.enabled = on;
-            put_active_unit(p, u)
-        }
-        Capability::Fog => {
-            q.fog.enabled = on;
-            accept(q)
-        }
-        Capability::Ignored => accept(p),
-        Capability::Unknown => refuse(p),
     }
 }
 
-// With a pname other than TEXTURE_ENV_MODE nothing is done.
-pub fn tex_env(p: Pipeline, pname: u32, value: u32) -> PipelineAnswer
-    ensures { result ≡ pipeline_step (tex_env pname value) p }
-{
-    if pname != 0x2200 {
-        return accept(p);
-    }
-    let found = tex_env_mode(value);
-    match found {
-        EnvChoice::Known(mode) => {
-            let old = active_unit(p);
-            let color = old.env_color;
-            let u = TextureUnit {
-                enabled: old.enabled,
-                env_mode: mode,
-                env_color: color,
-            };
-            put_active_unit(p, u)
+#[tactic(auto, using(crate::proofs::Bind::at_none, crate::proofs::Bind::at_some), unfolding(crate::specs::Pipeline::pipeline_step, crate::specs::Pipeline::accepted_pipeline))]
+impl Pipeline {
+    // The settings at first.
+    pub fn new() -> Pipeline
+        ensures { result ≡ fresh_pipeline }
+    {
+        Pipeline {
+            active_texture: 0,
+            units: [TextureUnit::new(); 4],
+            depth: DepthState {
+                test: false,
+                func: CompareFunc::Less,
+                near: 0.0,
+                far: 1.0,
+            },
+            alpha: AlphaState {
+                test: false,
+                func: CompareFunc::Always,
+                reference: 0.0,
+            },
+            blend: BlendState {
+                enabled: false,
+                src: BlendFactor::One,
+                dst: BlendFactor::Zero,
+            },
+            cull: CullState {
+                enabled: false,
+                mode: CullMode::Back,
+            },
+            front_face: FrontFace::Ccw,
+            fog: FogState {
+                enabled: false,
+                mode: FogMode::Exp,
+                density: 1.0,
+                start: 0.0,
+                end: 1.0,
+            },
         }
-        EnvChoice::Unknown => refuse(p),
     }
-}
 
-pub fn set_tex_env_color(p: Pipeline, color: [f32; 4]) -> PipelineAnswer
-    ensures { result ≡ pipeline_step (tex_env_color color) p }
-{
-    let mut u = active_unit(p);
-    u.env_color = color;
-    put_active_unit(p, u)
-}
-
-pub fn set_depth_func(p: Pipeline, func: u32) -> PipelineAnswer
-    ensures { result ≡ pipeline_step (depth_func func) p }
-{
-    let found = compare_func(func);
-    match found {
-        CompareChoice::Known(f) => {
-            let depth = DepthState {
-                test: p.depth.test,
-                func: f,
-                near: p.depth.near,
-                far: p.depth.far,
-            };
-            let mut q = p;
-            q.depth = depth;
-            accept(q)
+    // The unit that the calls on a texture unit go to.
+    fn active_unit(&self) -> TextureUnit
+        ensures { result ≡ active_unit self.now }
+    {
+        let i = self.active_texture as usize;
+        if i < 4 {
+            self.units[i]
+        } else {
+            TextureUnit::new()
         }
-        CompareChoice::Unknown => refuse(p),
     }
-}
 
-// Both ends are held within 0 to 1; a NaN stays.
-pub fn set_depth_range(p: Pipeline, near: f32, far: f32) -> PipelineAnswer
-    ensures { result ≡ pipeline_step (depth_range near far) p }
-{
-    let n = number::clamp_unit(near);
-    let f = number::clamp_unit(far);
-    let mut q = p;
-    q.depth.near = n;
-    q.depth.far = f;
-    accept(q)
-}
-
-// The reference is held within 0 to 1; a NaN stays.
-pub fn set_alpha_func(p: Pipeline, func: u32, reference: f32) -> PipelineAnswer
-    ensures { result ≡ pipeline_step (alpha_func func reference) p }
-{
-    let found = compare_func(func);
-    match found {
-        CompareChoice::Known(f) => {
-            let held = number::clamp_unit(reference);
-            let alpha = AlphaState {
-                test: p.alpha.test,
-                func: f,
-                reference: held,
-            };
-            let mut q = p;
-            q.alpha = alpha;
-            accept(q)
+    fn put_active_unit(&mut self, u: TextureUnit) -> Result<(), Refusal>
+        ensures { answered result self.new ≡ pipeline_answered (put_unit u self.old) self.old }
+    {
+        let i = self.active_texture as usize;
+        if i < 4 {
+            self.units[i] = u;
+            return Ok(());
         }
-        CompareChoice::Unknown => refuse(p),
+        Err(Refusal::InvalidEnum)
     }
-}
 
-pub fn set_blend_func(p: Pipeline, src: u32, dst: u32) -> PipelineAnswer
-    ensures { result ≡ pipeline_step (blend_func src dst) p }
-{
-    let from = blend_factor(src);
-    let to = blend_factor(dst);
-    match from {
-        BlendChoice::Known(s) => match to {
-            BlendChoice::Known(d) => {
-                let blend = BlendState {
-                    enabled: p.blend.enabled,
-                    src: s,
-                    dst: d,
-                };
-                let mut q = p;
-                q.blend = blend;
-                accept(q)
+    pub fn set_active_texture(&mut self, unit: u32) -> Result<(), Refusal>
+        ensures { answered result self.new ≡ pipeline_step (active_texture unit) self.old }
+    {
+        if unit < 4 {
+            self.active_texture = unit;
+            return Ok(());
+        }
+        Err(Refusal::InvalidEnum)
+    }
+
+    pub fn set_capability(&mut self, cap: u32, on: bool) -> Result<(), Refusal>
+        ensures { answered result self.new ≡ pipeline_step (capability cap on) self.old }
+    {
+        match Capability::try_from(cap)? {
+            Capability::DepthTest => self.depth.test = on,
+            Capability::AlphaTest => self.alpha.test = on,
+            Capability::Blend => self.blend.enabled = on,
+            Capability::CullFace => self.cull.enabled = on,
+            Capability::Texture2D => {
+                let mut u = self.active_unit();
+                u.enabled = on;
+                return self.put_active_unit(u);
             }
-            BlendChoice::Unknown => refuse(p),
-        },
-        BlendChoice::Unknown => refuse(p),
+            Capability::Fog => self.fog.enabled = on,
+            Capability::Ignored => {}
+        }
+        Ok(())
     }
-}
 
-// Only the capability switches culling on and off.
-pub fn set_cull_face(p: Pipeline, mode: u32) -> PipelineAnswer
-    ensures { result ≡ pipeline_step (cull_face mode) p }
-{
-    let found = cull_mode(mode);
-    match found {
-        CullChoice::Known(m) => {
-            let cull = CullState {
-                enabled: p.cull.enabled,
-                mode: m,
-            };
-            let mut q = p;
-            q.cull = cull;
-            accept(q)
+    // With a pname other than TEXTURE_ENV_MODE nothing is done.
+    pub fn tex_env(&mut self, pname: u32, value: u32) -> Result<(), Refusal>
+        ensures { answered result self.new ≡ pipeline_step (tex_env pname value) self.old }
+    {
+        if pname != 0x2200 {
+            return Ok(());
         }
-        CullChoice::Unknown => refuse(p),
+        let mut u = self.active_unit();
+        u.env_mode = TexEnvMode::try_from(value)?;
+        self.put_active_unit(u)
     }
-}
 
-pub fn set_front_face(p: Pipeline, mode: u32) -> PipelineAnswer
-    ensures { result ≡ pipeline_step (front_face mode) p }
-{
-    let found = front_face(mode);
-    match found {
-        FaceChoice::Known(f) => {
-            let units = p.units;
-            let depth = p.depth;
-            let alpha = p.alpha;
-            let blend = p.blend;
-            let cull = p.cull;
-            let fog = p.fog;
-            let q = Pipeline {
-                active_texture: p.active_texture,
-                units,
-                depth,
-                alpha,
-                blend,
-                cull,
-                front_face: f,
-                fog,
-            };
-            accept(q)
-        }
-        FaceChoice::Unknown => refuse(p),
+    pub fn set_tex_env_color(&mut self, color: [f32; 4]) -> Result<(), Refusal>
+        ensures { answered result self.new ≡ pipeline_step (tex_env_color color) self.old }
+    {
+        let mut u = self.active_unit();
+        u.env_color = color;
+        self.put_active_unit(u)
     }
-}
 
-// The fog mode by the whole part of the value.
-fn set_fog_mode(p: Pipeline, value: f32) -> PipelineAnswer
-    ensures { result ≡ pipeline_answered (fog_set FogParameter.Mode value p) p }
-{
-    let code = number::whole_u32(value);
-    let found = fog_mode(code);
-    match found {
-        FogChoice::Known(m) => {
-            let fog = FogState {
-                enabled: p.fog.enabled,
-                mode: m,
-                density: p.fog.density,
-                start: p.fog.start,
-                end: p.fog.end,
-            };
-            let mut q = p;
-            q.fog = fog;
-            accept(q)
-        }
-        FogChoice::Unknown => refuse(p),
+    pub fn set_depth_func(&mut self, func: u32) -> Result<(), Refusal>
+        ensures { answered result self.new ≡ pipeline_step (depth_func func) self.old }
+    {
+        self.depth.func = CompareFunc::try_from(func)?;
+        Ok(())
     }
-}
 
-pub fn set_fog(p: Pipeline, pname: u32, value: f32) -> PipelineAnswer
-    ensures { result ≡ pipeline_step (fog pname value) p }
-{
-    let mut q = p;
-    let what = fog_parameter(pname);
-    match what {
-        FogParameter::Mode => set_fog_mode(p, value),
-        FogParameter::Density => {
-            q.fog.density = value;
-            accept(q)
+    // Both ends are held within 0 to 1; a NaN stays.
+    pub fn set_depth_range(&mut self, near: f32, far: f32)
+        ensures { answer 0 self.new ≡ pipeline_step (depth_range near far) self.old }
+    {
+        self.depth.near = number::clamp_unit(near);
+        self.depth.far = number::clamp_unit(far);
+    }
+
+    // The reference is held within 0 to 1; a NaN stays.
+    pub fn set_alpha_func(&mut self, func: u32, reference: f32) -> Result<(), Refusal>
+        ensures { answered result self.new ≡ pipeline_step (alpha_func func reference) self.old }
+    {
+        self.alpha.func = CompareFunc::try_from(func)?;
+        self.alpha.reference = number::clamp_unit(reference);
+        Ok(())
+    }
+
+    pub fn set_blend_func(&mut self, src: u32, dst: u32) -> Result<(), Refusal>
+        ensures { answered result self.new ≡ pipeline_step (blend_func src dst) self.old }
+    {
+        let from = BlendFactor::try_from(src)?;
+        let to = BlendFactor::try_from(dst)?;
+        self.blend.src = from;
+        self.blend.dst = to;
+        Ok(())
+    }
+
+    // Only the capability switches culling on and off.
+    pub fn set_cull_face(&mut self, mode: u32) -> Result<(), Refusal>
+        ensures { answered result self.new ≡ pipeline_step (cull_face mode) self.old }
+    {
+        self.cull.mode = CullMode::try_from(mode)?;
+        Ok(())
+    }
+
+    pub fn set_front_face(&mut self, mode: u32) -> Result<(), Refusal>
+        ensures { answered result self.new ≡ pipeline_step (front_face mode) self.old }
+    {
+        self.front_face = FrontFace::try_from(mode)?;
+        Ok(())
+    }
+
+    // The fog mode by the whole part of the value.
+    pub fn set_fog(&mut self, pname: u32, value: f32) -> Result<(), Refusal>
+        ensures { answered result self.new ≡ pipeline_step (fog pname value) self.old }
+    {
+        match FogParameter::try_from(pname)? {
+            FogParameter::Mode => self.fog.mode = FogMode::try_from(number::whole_u32(value))?,
+            FogParameter::Density => self.fog.density = value,
+            FogParameter::Start => self.fog.start = value,
+            FogParameter::End => self.fog.end = value,
         }
-        FogParameter::Start => {
-            q.fog.start = value;
-            accept(q)
-        }
-        FogParameter::End => {
-            q.fog.end = value;
-            accept(q)
-        }
-        FogParameter::Unknown => refuse(p),
+        Ok(())
     }
 }

@@ -20,10 +20,6 @@ use Rattle.trace_reader.specs.declared.Header.{Header}
 use Rattle.trace_session.specs.Records.{Done}
 use Rattle.replay.specs.Replayed.{Comes, held, Replayed, started, followed}
 
--- one that is not going promises nothing
-pub not_going : {P : Type 0} (b : Bool) → b ≡ false → b ≡ true → P
-not_going b f t = let z : ◌≡◌ {A = ℕ} 0 1 = cc in absurd (omega arith)
-
 module _ {c : Context} {v : Borrowed} {h : Header} {bytes w w1 : List ℕ} where
   pub comes : ReadFrom h bytes w w1 → (words : List ℕ) → words ≡ take h.n w1 → (b : Bool) → b ≡ is_permitted c v h.code words → b ≡ true → Comes c v h bytes w w1
   comes r words e b p t = record { read = r; permitted = subst (λ (l : List ℕ). is_permitted c v h.code l ≡ true) e (sym p ∙ t) }
@@ -33,8 +29,9 @@ module _ (s0 g0 : List ℕ) (o0 : List Float) where
   starts f ev es = rw (ev, es) (started f)
 
   pub follows : {c c1 : Context} {v v1 : Borrowed} {stacks stacks1 : List MatrixStack} {store guest store1 guest1 : List ℕ} {out out1 : List Float}
-      {h : Header} {bytes w w1 : List ℕ} (words : List ℕ)
-      → Replayed s0 g0 o0 (held c v stacks store guest out) → Comes c v h bytes w w1 → words ≡ take h.n w1 → Done c v h.code words bytes store guest out c1 store1 guest1 out1
-      → v1 ≡ borrowed_after h.code (word_at words 0) (word_at words 1) v → stacks1 ≡ outer_stacks_after h.code words stacks
+      {h : Header} {bytes w w1 : List ℕ} (code : ℕ) (words lent : List ℕ)
+      → Replayed s0 g0 o0 (held c v stacks store guest out) → Comes c v h bytes w w1 → code ≡ h.code → words ≡ take h.n w1 → lent ≡ bytes
+      → Done c v code words lent store guest out c1 store1 guest1 out1
+      → v1 ≡ borrowed_after code (word_at words 0) (word_at words 1) v → stacks1 ≡ outer_stacks_after code words stacks
       → Replayed s0 g0 o0 (held c1 v1 stacks1 store1 guest1 out1)
-  follows words r k e d ev es = rw (ev, es, e) (followed r k (rw e at d))
+  follows code words lent r k ec e eb d ev es = rw (ev, es, ec, e) (followed r k (rw (ec, e, eb) at d))

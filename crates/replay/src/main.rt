@@ -1,32 +1,45 @@
 // Replays a trace: reads records from standard input, makes their calls and writes the answers to standard output.
 #![tactic(auto)]
 
-ghost use Rattle.std.specs.Prelude.{true, ◌≡◌};
+ghost use Rattle.std.specs.Prelude.{◌≡◌, IfSome, take};
 ghost use Rattle.replay.specs.Replayed.{Comes, Replays};
 
 use context::Context;
+use list_records::Record;
 use stack::MatrixStack;
 use trace_driver::Borrowed;
 use trace_format::{GUEST_AREA, MAX_OUTPUT, MAX_WORDS, STORE_AREA};
 use trace_reader::Header;
 
-// Reads the next record. Where it may not come now the answers end with the error line, and it is not going.
-fn next_record(c: Context, v: Borrowed, record: u64, body: &mut [u8], w: &mut [u32]) -> Header
-    ensures { result.going ≡ true → Comes c v result body.new w.old w.new }
+// The record of a header, its words the first of the area's.
+fn record_of<'a>(h: Header, body: &'a [u8], w: &'a [u32]) -> Record<'a>
+    ensures code { result.code ≡ h.code }
+    ensures words { result.words.now ≡ take h.n w.now }
+    ensures bytes { result.bytes.now ≡ body.now }
 {
-    let h = trace_reader::read_record(record, body, w);
-    if !h.going {
-        return h;
-    }
-    if trace_driver::is_permitted(c, v, h.code, list_words::first_words(w, h.n)) {
-        return h;
-    }
-    trace_answers::say_error(record, b"not in this state");
-    Header {
-        going: false,
+    Record {
         code: h.code,
-        n: h.n,
+        words: list_words::first_words(w, h.n),
+        bytes: body,
     }
+}
+
+// Reads the next record. None where the answers end: there is none, or it may not come now.
+fn next_record(
+    c: Context,
+    v: Borrowed,
+    record: u64,
+    body: &mut [u8],
+    w: &mut [u32],
+) -> Option<Header>
+    ensures { IfSome result (λ h. Comes c v h body.new w.old w.new) }
+{
+    let h = trace_reader::read_record(record, body, w)?;
+    if !trace_driver::is_permitted(c, v, record_of(h, body, w)) {
+        trace_answers::say_error(record, b"not in this state");
+        return None;
+    }
+    Some(h)
 }
 
 // Does what the records say, one after the other.
@@ -35,29 +48,15 @@ fn run(store: &mut [u8], guest: &mut [u8], out: &mut [f32], body: &mut [u8], w: 
 {
     let mut c = Context::new();
     let mut v = Borrowed::new();
-    let s = MatrixStack::new();
-    let mut stacks = [s; 4];
-    let mut record: u64 = 0;
-    while record < 0xffff_ffff_ffff_ffff {
-        let h = next_record(c, v, record, &mut body[..], &mut w[..]);
-        if !h.going {
+    let mut stacks = [MatrixStack::new(); 4];
+    for number in 0..u64::MAX {
+        let Some(h) = next_record(c, v, number, &mut body[..], &mut w[..]) else {
             break;
-        }
-        let words = list_words::first_words(&w[..], h.n);
-        c = trace_session::perform(
-            c,
-            v,
-            h.code,
-            words,
-            &body[..],
-            &mut store[..],
-            &mut guest[..],
-            &mut out[..],
-        );
-        v = v.after(h.code, words);
-        let used = trace_session::use_stacks(stacks, h.code, words);
-        stacks = used;
-        record += 1;
+        };
+        let record = record_of(h, &body[..], &w[..]);
+        c = trace_session::perform(c, v, record, &mut store[..], &mut guest[..], &mut out[..]);
+        v = v.after(record);
+        trace_session::use_stacks(&mut stacks, record);
     }
 }
 

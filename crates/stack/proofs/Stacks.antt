@@ -9,10 +9,10 @@ use borrow.Author.Tests.{lt-ltb, le-ltb, ltb-true, eqb-true}
 use lib.Dec.{ltb, eqb}
 use lib.ListN.{length, length-set}
 use lib.Seq.{take-suc-set, length-take-le, get_or-take, take-take}
+use Rattle.refusal.specs.Refusals.{Answer}
 use Rattle.stack.specs.Stack.{limit, Sound, MatrixCall, update, push, pop, stack_number, stack_state_of, fresh_stack_state, no_matrix, stack_effect}
 use Rattle.stack.specs.Stack.{stack_step, stack_answered, changed, stack_answer, fresh_stack}
 use Rattle.stack.specs.declared.MatrixStack.{MatrixStack}
-use Rattle.stack.specs.declared.StackAnswer.{StackAnswer}
 
 pub fresh_sound : Sound fresh_stack
 fresh_sound = record { places = refl; within = omega arith }
@@ -50,16 +50,16 @@ module _ (s : MatrixStack) (g : Sound s) where
   effect_sound pop e = record { places = g.places; within = omega (arith, g.within) }
 
   -- of a sound stack the answer is one of two
-  abbrev pub two : MatrixCall → Bool → StackAnswer
+  abbrev pub two : MatrixCall → Bool → Answer MatrixStack
   two k b = cond b (stack_answered 0 (changed k s)) (stack_answered (stack_number k s.depth) s)
 
   pub is_two : (k : MatrixCall) → stack_answer k s ≡ two k (eqb (stack_number k s.depth) 0)
   unfolding stack_answer
   is_two k = rw (le-ltb limit s.depth g.within)
 
-  abbrev Follows : MatrixCall → StackAnswer → Type 0
+  abbrev Follows : MatrixCall → Answer MatrixStack → Type 0
   Follows k a =
-      (a.number ≡ stack_number k (length (stack_state_of s).saved)) × (stack_state_of a.stack ≡ stack_step k (stack_state_of s)) × Sound a.stack
+      (a.number ≡ stack_number k (length (stack_state_of s).saved)) × (stack_state_of a.after ≡ stack_step k (stack_state_of s)) × Sound a.after
 
   follows_two : (k : MatrixCall) (b : Bool) → eqb (stack_number k s.depth) 0 ≡ b → Follows k (two k b)
   unfolding stack_step
@@ -73,12 +73,12 @@ module _ (s : MatrixStack) (g : Sound s) where
   follows k = rw (is_two k) (follows_two k (eqb (stack_number k s.depth) 0) refl)
 
 -- a refusal changes nothing, of any stack
-pub stack_stays : (k : MatrixCall) (s : MatrixStack) → ((stack_answer k s).number ≡ 0 → ⊥) → (stack_answer k s).stack ≡ s
+pub stack_stays : (k : MatrixCall) (s : MatrixStack) → ((stack_answer k s).number ≡ 0 → ⊥) → (stack_answer k s).after ≡ s
 unfolding stack_answer
 stack_stays k s = go (ltb limit s.depth) (eqb (stack_number k s.depth) 0)
   where
     go : (a b : Bool) → ((cond a (stack_answered 1 s) (cond b (stack_answered 0 (changed k s)) (stack_answered (stack_number k s.depth) s))).number ≡ 0 → ⊥)
-        → (cond a (stack_answered 1 s) (cond b (stack_answered 0 (changed k s)) (stack_answered (stack_number k s.depth) s))).stack ≡ s
+        → (cond a (stack_answered 1 s) (cond b (stack_answered 0 (changed k s)) (stack_answered (stack_number k s.depth) s))).after ≡ s
     go true b h = refl
     go false true h = absurd (h refl)
     go false false h = refl

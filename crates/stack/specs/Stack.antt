@@ -1,9 +1,9 @@
 -- The matrix stack (01: "Records", "Matrices", "Strands and fold").
 use Rattle.std.specs.Prelude.{cond, List, [], ◌∷◌, ◌++◌, ◌≡◌, ℕ, ◌+◌, ◌-◌, ◌≤◌, ltb, eqb, Float, length, get_or, take, set, replicate}
+use Rattle.refusal.specs.Refusals.{Answer, answer}
 use Rattle.matrix.specs.Matrix.{product, identity, frustum_of, ortho_of, translation, scaling, rotation, frustum_number, ortho_number}
 use Rattle.stack.specs.declared.Matrix.{Matrix}
 use Rattle.stack.specs.declared.MatrixStack.{MatrixStack}
-use Rattle.stack.specs.declared.StackAnswer.{StackAnswer}
 
 -- how many matrices a stack saves
 abbrev pub limit : ℕ
@@ -87,8 +87,8 @@ stack_step k t = cond (eqb (stack_number k (length t.saved)) 0) (stack_effect k 
 
 -- ---- the same on the record, every place of it: what the functions promise
 
-abbrev pub stack_answered : ℕ → MatrixStack → StackAnswer
-stack_answered n s = record { number = n; stack = s }
+abbrev pub stack_answered : ℕ → MatrixStack → Answer MatrixStack
+stack_answered n s = answer n s
 
 abbrev pub changed : MatrixCall → MatrixStack → MatrixStack
 changed (update u) s = record { current = with_entries u s.current; saved = s.saved; depth = s.depth }
@@ -96,7 +96,7 @@ changed push s = record { current = s.current; saved = set s.saved s.depth s.cur
 changed pop s = record { current = get_or s.saved (s.depth - 1) no_matrix; saved = s.saved; depth = s.depth - 1 }
 
 -- an unsound stack gives 1, and a refused call changes nothing
-unfoldable pub stack_answer : MatrixCall → MatrixStack → StackAnswer
+unfoldable pub stack_answer : MatrixCall → MatrixStack → Answer MatrixStack
 stack_answer k s =
     cond (ltb limit s.depth) (stack_answered 1 s)
     (cond (eqb (stack_number k s.depth) 0) (stack_answered 0 (changed k s)) (stack_answered (stack_number k s.depth) s))

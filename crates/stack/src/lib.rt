@@ -3,7 +3,10 @@
 
 ghost use Rattle.std.specs.Prelude.{◌≡◌};
 ghost use Rattle.number.specs.Decides.{Decides};
+ghost use Rattle.refusal.specs.Refusals.{answer_or};
 ghost use Rattle.stack.specs.Stack.{Sound, MatrixCall, stack_answer, fresh_stack};
+
+use refusal::Refusal;
 
 // 16 f32, column by column.
 #[repr(C)]
@@ -36,13 +39,6 @@ pub struct MatrixStack {
     pub saved: [Matrix; SAVED_LIMIT],
 }
 
-// A call's number, 0 for done, and the stack after it.
-#[derive(Clone, Copy)]
-pub struct StackAnswer {
-    pub number: u32,
-    pub stack: MatrixStack,
-}
-
 impl MatrixStack {
     // A stack with no matrix saved.
     pub fn new() -> MatrixStack
@@ -65,58 +61,40 @@ impl MatrixStack {
         self.depth <= SAVED_LIMIT
     }
 
-    // Saves a copy of the current matrix.
-    pub fn push(self) -> StackAnswer
-        ensures { result ≡ stack_answer MatrixCall.push self }
+    // The stack after a copy of the current matrix is saved.
+    #[tactic(auto, unfolding(crate::specs::Stack::stack_answer))]
+    pub fn push(self) -> Result<MatrixStack, Refusal>
+        ensures { answer_or self result ≡ stack_answer MatrixCall.push self }
     {
         let depth = self.depth;
         if SAVED_LIMIT < depth {
-            return StackAnswer {
-                number: 1,
-                stack: self,
-            };
+            return Err(Refusal::Invalid);
         }
-        if depth < SAVED_LIMIT {
-            let current = self.current;
-            let mut out = self;
-            out.saved[depth] = current;
-            out.depth = depth + 1;
-            return StackAnswer {
-                number: 0,
-                stack: out,
-            };
+        if depth == SAVED_LIMIT {
+            return Err(Refusal::StackOverflow);
         }
-        StackAnswer {
-            number: 0x0503,
-            stack: self,
-        }
+        let mut out = self;
+        out.saved[depth] = self.current;
+        out.depth = depth + 1;
+        Ok(out)
     }
 
-    // Takes the matrix saved last back.
-    pub fn pop(self) -> StackAnswer
-        ensures { result ≡ stack_answer MatrixCall.pop self }
+    // The stack after the matrix saved last is taken back.
+    #[tactic(auto, unfolding(crate::specs::Stack::stack_answer))]
+    pub fn pop(self) -> Result<MatrixStack, Refusal>
+        ensures { answer_or self result ≡ stack_answer MatrixCall.pop self }
     {
         let depth = self.depth;
         if SAVED_LIMIT < depth {
-            return StackAnswer {
-                number: 1,
-                stack: self,
-            };
+            return Err(Refusal::Invalid);
         }
-        if 0 < depth {
-            let last = depth - 1;
-            let current = self.saved[last];
-            let mut out = self;
-            out.current = current;
-            out.depth = last;
-            return StackAnswer {
-                number: 0,
-                stack: out,
-            };
+        if depth == 0 {
+            return Err(Refusal::StackUnderflow);
         }
-        StackAnswer {
-            number: 0x0504,
-            stack: self,
-        }
+        let last = depth - 1;
+        let mut out = self;
+        out.current = self.saved[last];
+        out.depth = last;
+        Ok(out)
     }
 }

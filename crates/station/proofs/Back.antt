@@ -25,11 +25,10 @@ use Rattle.list_runner.specs.Run.{MakesList}
 use Rattle.station.specs.declared.Kept.{Kept}
 use Rattle.station.specs.declared.KeptSettings.{KeptSettings}
 use Rattle.station.specs.declared.StationReply.{StationReply}
-use Rattle.station.specs.declared.KeptReply.{KeptReply}
 use Rattle.station.specs.Kept.{mode_code, compare_code, blend_code, cull_code, face_code, fog_code, env_code, mode_from, compare_from, blend_from, cull_from, face_from, fog_from}
 use Rattle.station.specs.Kept.{env_from, kept_unit, unit_from, kept_settings, settings_from, kept_of, context_from}
 use Rattle.station.specs.Boundary.{Encodes, FreshKept, Refused, Ran}
-use Rattle.station.specs.BoundaryCode.{refusal_of, answer_in}
+use Rattle.station.specs.BoundaryCode.{answer_in}
 
 mode_back : (m : MatrixMode) → mode_from (mode_code m) ≡ m
 mode_back MatrixMode.Modelview = refl
@@ -142,9 +141,10 @@ had_run {s = s} {words = words} {bytes = bytes} {out = out} {l = l} {s1 = s1} {o
 
 -- ---- a list on numbers that are no context's
 
-pub run_refused : {k : Kept} {s words bytes : List ℕ} {out : List Float} {r : KeptReply} → (Encodes k → ⊥) → r ≡ refusal_of k → Ran k s words bytes out r.reply r.kept s out
-run_refused {k = k} {s = s} {out = out} n e =
+pub run_refused : {k : Kept} {s words bytes : List ℕ} {out : List Float} {n : ℕ} → (Encodes k → ⊥) → n ≡ 1
+    → Ran k s words bytes out (record { number = n; value = 0; made = 0 }) k s out
+run_refused {k = k} {s = s} {out = out} is e =
     record {
-      refused = λ _. subst⁻¹ (λ (x : KeptReply). Refused k s out x.reply x.kept s out) e (record { answer = refl; kept = refl; store = refl; output = refl });
-      made = λ is. absurd (n is);
+      refused = λ _. rw e (record { answer = refl; kept = refl; store = refl; output = refl });
+      made = λ i. absurd (is i);
     }

@@ -1,4 +1,3 @@
-pub mod Four
 pub mod Back
 pub mod Histories
 pub mod Parts

@@ -1,11 +1,12 @@
 // The lines of a trace's answers, written to standard output. A line is a name, numbers, words of f32.
 #![tactic(auto)]
 
-ghost use Rattle.io.specs.Counts.{IsPrefixLen};
-
 use stack::{Matrix, MatrixStack, SAVED_LIMIT};
 
 const STDOUT: i32 = 1;
+
+// The words of a triangle in an output.
+const TRIANGLE_WORDS: usize = 51;
 
 // Puts the rest of a line after its name and writes it.
 fn finish(line: &mut [u8], place: usize, numbers: &[u64], words: &[f32]) {
@@ -17,8 +18,7 @@ fn finish(line: &mut [u8], place: usize, numbers: &[u64], words: &[f32]) {
 
 // A line of numbers alone.
 pub fn say_numbers(name: &[u8], numbers: &[u64]) {
-    let none = [0.0; 0];
-    say(name, numbers, &none);
+    say(name, numbers, &[]);
 }
 
 pub fn say(name: &[u8], numbers: &[u64], words: &[f32]) {
@@ -40,88 +40,70 @@ pub fn say_error(record: u64, reason: &[u8]) {
 
 // ---- calls
 
-// The names of the calls by rising opcode, 16 bytes each.
-const NAMES: [u8; 640] = *b"\
-    MATRIX_MODE     LOAD_IDENTITY   LOAD            MULT            \
-    PUSH            POP             TRANSLATE       SCALE           \
-    ROTATE          ROTATE_ZERO     FRUSTUM         ORTHO           \
-    GEN             BIND            DELETE          BUFFER_DATA     \
-    BUFFER_SUB_DATA VERTEX_POINTER  COLOR_POINTER   NORMAL_POINTER  \
-    TEXCOORD_POINTERCLIENT_STATE    CLIENT_UNIT     COLOR           \
-    MULTI_TEXCOORD  ACTIVE_UNIT     CAPABILITY      TEX_ENV         \
-    TEX_ENV_COLOR   DEPTH_FUNC      ALPHA_FUNC      BLEND_FUNC      \
-    CULL_FACE       FRONT_FACE      FOG             DEPTH_RANGE     \
-    TAKE_ERROR      DRAW_LIST       DRAW_ARRAYS     DRAW_GUEST      ";
-
-// The place of an opcode's name among them.
-fn name_row(code: u32) -> u32 {
-    if code < 0x10 {
-        return 0;
+// The name of a record's call. An opcode that is no call's has none.
+fn name(code: u32) -> &'static [u8] {
+    match code {
+        0x10 => b"MATRIX_MODE",
+        0x11 => b"LOAD_IDENTITY",
+        0x12 => b"LOAD",
+        0x13 => b"MULT",
+        0x14 => b"PUSH",
+        0x15 => b"POP",
+        0x16 => b"TRANSLATE",
+        0x17 => b"SCALE",
+        0x18 => b"ROTATE",
+        0x19 => b"ROTATE_ZERO",
+        0x1a => b"FRUSTUM",
+        0x1b => b"ORTHO",
+        0x20 => b"GEN",
+        0x21 => b"BIND",
+        0x22 => b"DELETE",
+        0x23 => b"BUFFER_DATA",
+        0x24 => b"BUFFER_SUB_DATA",
+        0x30 => b"VERTEX_POINTER",
+        0x31 => b"COLOR_POINTER",
+        0x32 => b"NORMAL_POINTER",
+        0x33 => b"TEXCOORD_POINTER",
+        0x34 => b"CLIENT_STATE",
+        0x35 => b"CLIENT_UNIT",
+        0x36 => b"COLOR",
+        0x37 => b"MULTI_TEXCOORD",
+        0x40 => b"ACTIVE_UNIT",
+        0x41 => b"CAPABILITY",
+        0x42 => b"TEX_ENV",
+        0x43 => b"TEX_ENV_COLOR",
+        0x44 => b"DEPTH_FUNC",
+        0x45 => b"ALPHA_FUNC",
+        0x46 => b"BLEND_FUNC",
+        0x47 => b"CULL_FACE",
+        0x48 => b"FRONT_FACE",
+        0x49 => b"FOG",
+        0x4a => b"DEPTH_RANGE",
+        0x50 => b"TAKE_ERROR",
+        0x60 => b"DRAW_LIST",
+        0x61 => b"DRAW_ARRAYS",
+        0x62 => b"DRAW_GUEST",
+        _ => b"",
     }
-    if code < 0x20 {
-        return code - 0x10;
-    }
-    if code < 0x30 {
-        return code - 0x20 + 12;
-    }
-    if code < 0x40 {
-        return code - 0x30 + 17;
-    }
-    if code < 0x50 {
-        return code - 0x40 + 25;
-    }
-    if code < 0x60 {
-        return 36;
-    }
-    code - 0x60 + 37
-}
-
-// How many bytes come before the first space.
-fn name_length(row: &[u8]) -> usize {
-    let mut n: usize = 0;
-    while n < row.len() {
-        if row[n] == b' ' {
-            break;
-        }
-        n += 1;
-    }
-    n
-}
-
-fn put_name(line: &mut [u8], code: u32) -> usize
-    ensures { IsPrefixLen result line.new }
-{
-    let names = NAMES;
-    let row = list_words::bytes_at(&names, 16 * (name_row(code) as usize), 16);
-    trace_text::put(line, 0, list_words::bytes_at(row, 0, name_length(row)))
 }
 
 // The answer of a call.
 pub fn say_call(code: u32, numbers: &[u64]) {
-    let mut line = [0u8; 512];
-    let n = put_name(&mut line, code);
-    let none = [0.0; 0];
-    finish(&mut line, n, numbers, &none);
+    say_numbers(name(code), numbers);
 }
 
 // The answer of a call that is no draw: gen and take_error have a value.
 pub fn say_reply(code: u32, number: u32, value: usize) {
-    if code == 0x20 {
-        say_call(code, &[number as u64, value as u64]);
-        return;
+    match code {
+        0x20 | 0x50 => say_call(code, &[u64::from(number), value as u64]),
+        _ => say_call(code, &[u64::from(number)]),
     }
-    if code == 0x50 {
-        say_call(code, &[number as u64, value as u64]);
-        return;
-    }
-    say_call(code, &[number as u64]);
 }
 
 // Says where a draw has changed a word behind its triangles.
 pub fn say_touched(out: &[f32], count: usize) {
-    if count <= out.len() / 51 {
-        let i = trace_format::first_touched(out, 51 * count);
-        if i < out.len() {
+    if count <= out.len() / TRIANGLE_WORDS {
+        if let Some(i) = trace_format::first_touched(out, TRIANGLE_WORDS * count) {
             say_numbers(b"TOUCHED", &[i as u64]);
         }
     }
@@ -129,58 +111,37 @@ pub fn say_touched(out: &[f32], count: usize) {
 
 // A triangle: its words with no name before them.
 fn say_triangle(words: &[f32]) {
-    if words.len() > 0 {
+    if let Some((first, rest)) = words.split_first() {
         let mut line = [0u8; 512];
-        let none = [0u64; 0];
-        let n = trace_text::put_hex(&mut line, 0, trace_text::shown_bits(words[0]));
-        finish(&mut line, n, &none, &words[1..]);
+        let n = trace_text::put_hex(&mut line, 0, trace_text::shown_bits(*first));
+        finish(&mut line, n, &[], rest);
     }
 }
 
 pub fn say_triangles(out: &[f32], count: usize) {
-    let mut t: usize = 0;
-    while t < count {
-        say_triangle_at(out, t);
-        t += 1;
-    }
-}
-
-fn say_triangle_at(out: &[f32], t: usize) {
-    if t < out.len() / 51 {
-        let start = 51 * t;
-        say_triangle(&out[start..start + 51]);
+    for words in out.chunks_exact(TRIANGLE_WORDS).take(count) {
+        say_triangle(words);
     }
 }
 
 // ---- matrix stacks
 
-fn say_matrix(name: &[u8], numbers: &[u64], m: Matrix) {
-    let words = m.entries;
-    say(name, numbers, &words);
-}
-
-fn say_saved(s: MatrixStack, k: usize) {
-    let none = [0u64; 0];
-    if k < SAVED_LIMIT {
-        say_matrix(b"saved", &none, s.saved[k]);
-    }
+fn say_matrix(name: &[u8], numbers: &[u64], m: &Matrix) {
+    say(name, numbers, &m.entries);
 }
 
 // The saved matrices, the oldest first. A stack whose saved count is above 15 has 15.
-fn say_all_saved(s: MatrixStack) {
-    let end = number::smaller(s.depth, SAVED_LIMIT);
-    let mut k: usize = 0;
-    while k < end {
-        say_saved(s, k);
-        k += 1;
+fn say_all_saved(s: &MatrixStack) {
+    let end = s.depth.min(SAVED_LIMIT);
+    for m in &s.saved[..end] {
+        say_matrix(b"saved", &[], m);
     }
 }
 
 // A line with the current matrix, then the saved ones.
 pub fn say_matrices(name: &[u8], numbers: &[u64], s: MatrixStack) {
-    let m = s.current;
-    say_matrix(name, numbers, m);
-    say_all_saved(s);
+    say_matrix(name, numbers, &s.current);
+    say_all_saved(&s);
 }
 
 pub fn say_stack(s: MatrixStack) {

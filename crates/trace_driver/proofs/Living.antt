@@ -12,7 +12,8 @@ use Rattle.buffers.specs.Objects.{slot_count, name_at}
 use Rattle.buffers.specs.ObjectsCode.{live_in}
 use Rattle.buffers.specs.declared.Slot.{Slot}
 use Rattle.buffers.proofs.Bounds.{lt_or_ge}
-use Rattle.buffers.specs.Live.{NextLive}
+use Rattle.buffers.specs.Live.{NextLive, FindsNext}
+use Rattle.std.specs.Prelude.{Option, Some, None, is_some}
 use Rattle.trace_driver.specs.Permitted.{any_live}
 
 module _ (P : ℕ → Bool) where
@@ -30,14 +31,12 @@ module _ (P : ℕ → Bool) where
       (λ (m : n ≤ k). let q : n ≡ k = omega arith in rw (q, e) (omega arith))
       (lt_or_ge k n)
 
-module _ (slots : List Slot) (r : ℕ) (h : NextLive slots 0 slot_count r) where
-  unnamed : slot_count ≤ r → (k : ℕ) → k < slot_count → ltb 0 (name_at slots k) ≡ false
-  unnamed g k l = ⊎_elim (λ u. absurd (omega (arith, (h.least k l u).0))) (λ z. le-ltb 0 (name_at slots k) z) (lt_or_ge 0 (name_at slots k))
+module _ (slots : List Slot) where
+  unnamed : NextLive slots 0 slot_count slot_count → (k : ℕ) → k < slot_count → ltb 0 (name_at slots k) ≡ false
+  unnamed h k l = ⊎_elim (λ u. absurd (omega (arith, (h.least k l u).0))) (λ z. le-ltb 0 (name_at slots k) z) (lt_or_ge 0 (name_at slots k))
 
-  pub live_is : ltb r slot_count ≡ any_live slots
+  pub live_is : (r : Option ℕ) → FindsNext slots 0 slot_count r → is_some r ≡ any_live slots
   unfolding live_in
-  live_is =
-      ⊎_elim
-      (λ l. rw (lt-ltb r slot_count l) (sym (lt-ltb 0 (live_in slots) (one_counted (λ k. ltb 0 (name_at slots k)) slot_count r l (lt-ltb 0 (name_at slots r) (h.found l).1)))))
-      (λ g. rw (le-ltb r slot_count g, none_counted (λ k. ltb 0 (name_at slots k)) slot_count (unnamed g)))
-      (lt_or_ge r slot_count)
+  live_is None h = rw (none_counted (λ k. ltb 0 (name_at slots k)) slot_count (unnamed h))
+  live_is (Some r) h =
+      sym (lt-ltb 0 (live_in slots) (one_counted (λ k. ltb 0 (name_at slots k)) slot_count r h.0 (lt-ltb 0 (name_at slots r) (h.1.found h.0).1)))

@@ -1,38 +1,13 @@
--- Whether indices can be read, from the bytes that they take. Assumes nothing.
-use mathlib.Core.Bool.{false}
-use mathlib.Core.Logic.{⊎_elim}
-use mathlib.Core.Path.{◌≡◌, sym}
-use Prim.Native.Nat.{ℕ, ◌+◌, ◌-◌, ◌*◌, ◌<◌, ◌≤◌}
-use native.Mathlib.Omega.{arith}
-use borrow.Author.Tests.{le-leb, lt-leb, eq-eqb, ne_eqb}
-use lib.Dec.{leb}
-use Rattle.vertex.specs.Index.{index_width}
-use Rattle.vertex.proofs.Sources.{widths}
-use Rattle.trace_driver.specs.declared.Borrowed.{Borrowed}
-use Rattle.trace_driver.specs.Permitted.{can_be_read}
+-- The bytes of an index of a type, from the type that a code decodes to. Assumes nothing.
+use Rattle.std.proofs.Common.{ℕ, ◌≡◌, Ok, Err, sym, ap, ◌∙◌, Result, refl}
+use Rattle.refusal.specs.Enumerants.{Decodes, found}
+use Rattle.refusal.specs.declared.UnknownEnum.{UnknownEnum}
+use Rattle.vertex.specs.Index.{index_width, index_types, type_width}
+use Rattle.vertex.specs.declared.IndexType.{IndexType}
+use Rattle.vertex.proofs.Sources.{width_or, width_looked}
 
-module _ (v : Borrowed) (element count ty pointer w : ℕ) (e : w ≡ index_width ty) where
-  pub no_width : w ≡ 0 → false ≡ can_be_read v element count ty pointer
-  unfolding can_be_read
-  no_width z = rw (sym e, z)
+pub known_type : (ty : ℕ) (k : IndexType) → Decodes index_types ty (Ok k) → index_width ty ≡ type_width k
+known_type ty k d = width_looked ty ∙ ap width_or (sym d)
 
-  module _ (known : w ≡ 0 → ⊥) where
-    pub in_a_buffer : (element ≡ 0 → ⊥) → false ≡ can_be_read v element count ty pointer
-    unfolding can_be_read
-    in_a_buffer b = rw (sym e, ne_eqb w 0 known, ne_eqb element 0 b)
-
-    module _ (guest : element ≡ 0) where
-      pub below_the_base : pointer < v.base → false ≡ can_be_read v element count ty pointer
-      unfolding can_be_read
-      below_the_base l = rw (sym e, ne_eqb w 0 known, eq-eqb element 0 guest, lt-leb v.base pointer l)
-
-      module _ (l : v.base ≤ pointer) where
-        pub by_length : (len : ℕ) → len ≡ count * w → leb (pointer - v.base + len) v.guest ≡ can_be_read v element count ty pointer
-        unfolding can_be_read
-        by_length len q = rw (sym e, ne_eqb w 0 known, eq-eqb element 0 guest, le-leb v.base pointer l, q)
-
-        pub by_bytes : w ≡ 1 → leb (pointer - v.base + count) v.guest ≡ can_be_read v element count ty pointer
-        by_bytes one = by_length count (rw one (omega arith))
-
-        pub by_shorts : (w ≡ 1 → ⊥) → leb (pointer - v.base + 2 * count) v.guest ≡ can_be_read v element count ty pointer
-        by_shorts other = ⊎_elim (λ one. absurd (other one)) (λ two. by_length (2 * count) (rw two (omega arith))) (widths ty w e known)
+pub unknown_type : (ty : ℕ) (e : UnknownEnum) → Decodes index_types ty (Err e) → index_width ty ≡ 0
+unknown_type ty e d = width_looked ty ∙ ap width_or (sym d)

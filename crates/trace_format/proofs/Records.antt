@@ -8,6 +8,7 @@ use native.Mathlib.Nat.{mod-lt, zero-lt-suc}
 use lib.Dec.{eqb, leb}
 use lib.ListN.{length}
 use mathlib.Core.List.{List}
+use Rattle.std.specs.Prelude.{Result, Ok, Err}
 use Rattle.trace_format.specs.declared.Fault.{Fault}
 use Rattle.trace_format.specs.Trace.{head, has_size, limits_of, within, is_joined, is_padded, has_padding, fault_of}
 
@@ -46,8 +47,8 @@ unfolding is_padded
 whole_words n last a b c = rw (eq-eqb (n % 4) 0 (none_left (n % 4) (mod-lt n (zero-lt-suc 3)) a b c))
 
 -- the answers to the four questions decide
-abbrev picked : Bool → Bool → Bool → Bool → Fault
-picked s i j p = cond s (cond i (cond j (cond p Fault.None Fault.Padding) Fault.Bound) Fault.Bound) Fault.Shape
+abbrev picked : Bool → Bool → Bool → Bool → Result (Unit {0}) Fault
+picked s i j p = cond s (cond i (cond j (cond p (Ok tt) (Err Fault.Padding)) (Err Fault.Bound)) (Err Fault.Bound)) (Err Fault.Shape)
 
 pub fault_is : (code : ℕ) (w : List ℕ) {h l : List ℕ} (s i j p : Bool)
     → h ≡ head w → l ≡ limits_of code → s ≡ has_size code (length w) h → i ≡ within 5 h l → j ≡ is_joined code h → p ≡ has_padding code w

@@ -1,5 +1,7 @@
 -- Areas that are filled by a rule, words made of bytes, and the hash that stands for bytes in a dump.
 use Rattle.std.specs.Prelude.{List, [], ◌∷◌, ◌++◌, ◌≡◌, ℕ, zero, suc, ◌+◌, ◌*◌, ◌/◌, ◌%◌, ◌^◌, ◌<◌, ◌≤◌, min, length, get_or, take, drop, Float}
+use Rattle.std.specs.declared.option.Option.{Option}
+use Rattle.std.specs.declared.option.Option.TheVariants.{Some, None}
 use Rattle.std.specs.Int.Bits.{bit_xor}
 use Rattle.std.specs.Float.{nan, binary32}
 use Rattle.std.specs.Float.Ieee.{to_bits}
@@ -25,6 +27,11 @@ mark_bits i = 0x5ead0000 + i % 65536
 -- word i is still as it was marked
 abbrev pub Marked : List Float → ℕ → Type 0
 Marked out i = to_bits binary32 (get_or out i nan) ≡ mark_bits i
+
+-- a place, or another where there is none
+abbrev pub place_or : Option ℕ → ℕ → ℕ
+place_or (Some i) other = i
+place_or None other = other
 
 -- r is the least place from a place on whose word is not, or past the end where there is none
 abbrev pub FirstTouched : List Float → ℕ → ℕ → Type 0

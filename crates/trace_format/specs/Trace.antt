@@ -1,5 +1,5 @@
 -- The records of a trace: an opcode, a number of words, the words. Which there are, and when a reader stops.
-use Rattle.std.specs.Prelude.{Bool, true, false, cond, List, [], ◌∷◌, ℕ, zero, suc, ◌+◌, ◌*◌, ◌-◌, ◌/◌, ◌%◌, ◌^◌, min, eqb, ltb, leb, length}
+use Rattle.std.specs.Prelude.{Bool, true, false, cond, List, [], ◌∷◌, ℕ, zero, suc, ◌+◌, ◌*◌, ◌-◌, ◌/◌, ◌%◌, ◌^◌, min, eqb, ltb, leb, length, Result, Ok, Err}
 use Rattle.std.proofs.Math.Option.{Option, some, none, get_or}
 use Rattle.number.specs.Tables.{Row, ◌names◌, lookup}
 use Rattle.list_words.specs.Words.{word_at}
@@ -140,12 +140,12 @@ has_padding code w = cond (eqb (byte_start code) 0) true (is_padded (word_at w (
 
 -- ---- why a reader stops at a record
 
-unfoldable pub fault_of : ℕ → List ℕ → Fault
+unfoldable pub fault_of : ℕ → List ℕ → Result (Unit {0}) Fault
 fault_of code w =
     cond (has_size code (length w) (head w))
     (cond (within 5 (head w) (limits_of code))
     (cond (is_joined code (head w))
-    (cond (has_padding code w) Fault.None Fault.Padding)
-    Fault.Bound)
-    Fault.Bound)
-    Fault.Shape
+    (cond (has_padding code w) (Ok tt) (Err Fault.Padding))
+    (Err Fault.Bound))
+    (Err Fault.Bound))
+    (Err Fault.Shape)

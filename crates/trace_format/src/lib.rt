@@ -1,12 +1,12 @@
 // The records of a trace: whether a record keeps the format, words from bytes, areas that are filled by a rule.
 #![tactic(auto)]
 
-ghost use Rattle.std.specs.Prelude.{◌≡◌, ◌+◌, ◌-◌, ◌/◌, ◌<◌, length};
+ghost use Rattle.std.specs.Prelude.{◌≡◌, ◌+◌, ◌-◌, ◌/◌, ◌<◌, max, length};
 ghost use Rattle.std.specs.Float.{binary32};
 ghost use Rattle.std.specs.Float.Ieee.{of_bits};
 ghost use Rattle.trace_format.specs.Trace.{packed, head, has_size, limits_of, within, is_joined, byte_start, is_padded, has_padding, fault_of};
 ghost use Rattle.trace_format.specs.Calls.{made_words, call_words, call_code};
-ghost use Rattle.trace_format.specs.Fill.{filled, fill_byte, mark_bits, FirstTouched, word_of, hash_step, hash};
+ghost use Rattle.trace_format.specs.Fill.{filled, fill_byte, mark_bits, FirstTouched, place_or, word_of, hash_step, hash};
 
 // Bounds: words of a record, bytes of the store's area and of the guest's, indices or names of a record, f32 of an output, bytes of an upload.
 pub const MAX_WORDS: usize = 65600;
@@ -26,7 +26,6 @@ const ANY: u32 = 0xffff_ffff;
 // Why a reader stops at a record. Shape: the opcode is unknown, or the number of words is not the opcode's.
 #[derive(Clone, Copy)]
 pub enum Fault {
-    None,
     Shape,
     Bound,
     Padding,
@@ -36,7 +35,7 @@ pub enum Fault {
 fn packed_words(n: u32) -> u32
     ensures { result ≡ packed n }
 {
-    ((n as u64 + 3) / 4) as u32
+    n.div_ceil(4)
 }
 
 // n words and k more.
@@ -79,7 +78,7 @@ fn has_size(code: u32, n: usize, h: [u32; 5]) -> bool
         0x60 => n == and_more(4, h[3]),
         0x61 => n == 5,
         0x62 => n == 6,
-        0x70 => n == 18 + 16 * number::smaller(h[1] as usize, 15),
+        0x70 => n == 18 + 16 * (h[1] as usize).min(15),
         0x71 => n == 1,
         0x72 => n == 1,
         0x73 => n == 1,
@@ -118,19 +117,7 @@ fn limits_of(code: u32) -> [u32; 5]
 fn is_within(h: [u32; 5], most: [u32; 5]) -> bool
     ensures { result ≡ within 5 h most }
 {
-    if most[4] < h[4] {
-        return false;
-    }
-    if most[3] < h[3] {
-        return false;
-    }
-    if most[2] < h[2] {
-        return false;
-    }
-    if most[1] < h[1] {
-        return false;
-    }
-    h[0] <= most[0]
+    h.iter().zip(&most).all(|(x, limit)| x <= limit)
 }
 
 // Bounds on two words together, and the least kind of an unsound context.
@@ -170,12 +157,6 @@ fn is_padded(n: u32, last: u32) -> bool
     }
 }
 
-fn before(n: usize) -> usize
-    ensures { result ≡ n - 1 }
-{
-    if n == 0 { 0 } else { n - 1 }
-}
-
 fn has_padding(code: u32, w: &[u32]) -> bool
     ensures { result ≡ has_padding code w.now }
 {
@@ -183,47 +164,41 @@ fn has_padding(code: u32, w: &[u32]) -> bool
     if start == 0 {
         return true;
     }
-    let n = list_words::word_at(w, before(start));
-    is_padded(n, list_words::word_at(w, before(w.len())))
+    let n = list_words::word_at(w, start - 1);
+    is_padded(n, list_words::word_at(w, w.len().saturating_sub(1)))
 }
 
-// Why a reader stops at a record; None where it keeps the format.
-pub fn fault_of(code: u32, w: &[u32]) -> Fault
+// Whether a record keeps the format, or why a reader stops at it.
+pub fn fault_of(code: u32, w: &[u32]) -> Result<(), Fault>
     ensures { result ≡ fault_of code w.now }
 {
     let h = head_of(w);
     if !has_size(code, w.len(), h) {
-        return Fault::Shape;
+        return Err(Fault::Shape);
     }
-    if !is_within(h, limits_of(code)) {
-        return Fault::Bound;
+    if !is_within(h, limits_of(code)) || !is_joined(code, h) {
+        return Err(Fault::Bound);
     }
-    if !is_joined(code, h) {
-        return Fault::Bound;
+    if !has_padding(code, w) {
+        return Err(Fault::Padding);
     }
-    if has_padding(code, w) {
-        Fault::None
-    } else {
-        Fault::Padding
-    }
+    Ok(())
 }
 
 // Byte i of an area filled by a seed.
 fn fill_byte(i: u32, seed: u32) -> u8
     ensures { result ≡ fill_byte seed i }
 {
-    (((i as u64 * 2654435761 + seed as u64) % 4294967296) / 16777216) as u8
+    (i.wrapping_mul(2654435761).wrapping_add(seed) >> 24) as u8
 }
 
 // Fills the first n bytes of an area, or all.
 pub fn fill(area: &mut [u8], n: u32, seed: u32)
     ensures { area.new ≡ filled (fill_byte seed) n area.old }
 {
-    let end = number::smaller(n as usize, area.len()) as u32;
-    let mut i: u32 = 0;
-    while i < end {
-        area[i as usize] = fill_byte(i, seed);
-        i += 1;
+    let end = area.len().min(n as usize);
+    for (i, x) in area[..end].iter_mut().enumerate() {
+        *x = fill_byte(i as u32, seed);
     }
 }
 
@@ -240,11 +215,9 @@ fn word_of(bytes: &[u8], i: usize) -> u32
 pub fn read_words(bytes: &[u8], w: &mut [u32])
     ensures { w.new ≡ filled (word_of bytes.now) (length bytes.now / 4) w.old }
 {
-    let end = number::smaller(bytes.len() / 4, w.len());
-    let mut i: usize = 0;
-    while i < end {
-        w[i] = word_of(bytes, i);
-        i += 1;
+    let end = w.len().min(bytes.len() / 4);
+    for (i, x) in w[..end].iter_mut().enumerate() {
+        *x = word_of(bytes, i);
     }
 }
 
@@ -265,31 +238,27 @@ fn mark_at(i: usize) -> f32
 pub fn mark(out: &mut [f32])
     ensures { out.new ≡ filled (λ i. of_bits binary32 (mark_bits i)) (length out.old) out.old }
 {
-    let mut i: usize = 0;
-    while i < out.len() {
-        out[i] = mark_at(i);
-        i += 1;
+    for (i, x) in out.iter_mut().enumerate() {
+        *x = mark_at(i);
     }
 }
 
-// The first word from a place on that is no longer marked; past the end where all are.
-pub fn first_touched(out: &[f32], start: usize) -> usize
-    ensures { FirstTouched out.now start result }
+// The first word from a place on that is no longer marked.
+pub fn first_touched(out: &[f32], start: usize) -> Option<usize>
+    ensures { FirstTouched out.now start (place_or result (max start (length out.now))) }
 {
-    let mut i = start;
-    while i < out.len() {
+    for i in start..out.len() {
         if number::bits_of_f32(out[i]) != mark_bits(i) {
-            return i;
+            return Some(i);
         }
-        i += 1;
     }
-    i
+    None
 }
 
 fn hash_step(h: u32, b: u8) -> u32
     ensures { result ≡ hash_step h b }
 {
-    (((h as u64 ^ b as u64) * 0x01000193) % 4294967296) as u32
+    (h ^ u32::from(b)).wrapping_mul(0x01000193)
 }
 
 // 32-bit FNV-1a of bytes.
@@ -297,10 +266,8 @@ pub fn hash_of(bytes: &[u8]) -> u32
     ensures { result ≡ hash bytes.now }
 {
     let mut h: u32 = 0x811c9dc5;
-    let mut i: usize = 0;
-    while i < bytes.len() {
-        h = hash_step(h, bytes[i]);
-        i += 1;
+    for b in bytes {
+        h = hash_step(h, *b);
     }
     h
 }

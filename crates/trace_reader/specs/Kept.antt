@@ -1,8 +1,7 @@
 -- What is known of a record that was read. Which bytes come is the system's choice, of which no contract speaks.
-use Rattle.std.specs.Prelude.{true, List, ◌≡◌, ℕ, ◌*◌, ◌≤◌, length, take}
+use Rattle.std.specs.Prelude.{List, ◌≡◌, ℕ, ◌*◌, ◌≤◌, length, take, Ok}
 use Rattle.trace_format.specs.Trace.{fault_of}
 use Rattle.trace_format.specs.Fill.{filled, word_of}
-use Rattle.trace_format.specs.declared.Fault.{Fault}
 use Rattle.trace_reader.specs.declared.Header.{Header}
 use Rattle.trace_reader.specs.declared.Opening.{Opening}
 
@@ -11,11 +10,11 @@ abbrev pub opening_of : List ℕ → Opening
 opening_of bytes = record { code = word_of bytes 0; n = word_of bytes 1 }
 
 abbrev pub header_of : ℕ → ℕ → Header
-header_of code n = record { going = true; code = code; n = n }
+header_of code n = record { code = code; n = n }
 
 -- its words are n and keep the format
 pub record Kept (r : Header) (n : ℕ) (w : List ℕ) : Type 0 where
-  pub fault : fault_of r.code w ≡ Fault.None
+  pub fault : fault_of r.code w ≡ Ok tt
   pub size : r.n ≡ n
 
 -- a record's words, all of them, are those of the bytes: an area of words that held w before holds w1

@@ -1,19 +1,46 @@
 // Reads the records of a trace from standard input. Where one does not keep the format the answers end with the error line.
 #![tactic(auto)]
 
-ghost use Rattle.std.specs.Prelude.{true, false, ◌≡◌, ◌≤◌, length};
-ghost use Rattle.trace_reader.specs.Kept.{opening_of, header_of, Kept, ReadFrom};
+ghost use Rattle.std.specs.Prelude.{◌≡◌, ◌≤◌, length, IfOk, IfSome};
+ghost use Rattle.trace_reader.specs.Kept.{opening_of, ReadFrom};
+ghost use Rattle.trace_reader.specs.declared.Stop.{Stop};
 
 use trace_format::{Fault, MAX_WORDS};
 
 const STDIN: i32 = 0;
 
-// A record that was read: its opcode, and how many words it has. Not `going` where there is none.
+// A record that was read: its opcode, and how many words it has.
 #[derive(Clone, Copy)]
 pub struct Header {
-    pub going: bool,
     pub code: u32,
     pub n: usize,
+}
+
+// Why the answers end at a record: the file ends inside it, or it does not keep the format.
+#[derive(Clone, Copy)]
+enum Stop {
+    Cut,
+    Fault(Fault),
+}
+
+impl From<Fault> for Stop {
+    ghost from_gives = { λ fault stop. stop ≡ Stop.Fault fault };
+
+    fn from(fault: Fault) -> Stop {
+        Stop::Fault(fault)
+    }
+}
+
+impl Stop {
+    // What the error line says.
+    fn reason(self) -> &'static [u8] {
+        match self {
+            Stop::Cut => b"the file ends inside the record",
+            Stop::Fault(Fault::Shape) => b"unknown opcode, or wrong number of words",
+            Stop::Fault(Fault::Bound) => b"a bound is passed",
+            Stop::Fault(Fault::Padding) => b"nonzero padding",
+        }
+    }
 }
 
 // The two words before a record's own: its opcode, and how many words it has.
@@ -34,78 +61,51 @@ fn opening_of(bytes: [u8; 8]) -> Opening
     }
 }
 
-// No record.
-fn none() -> Header
-    ensures { result.going ≡ false }
+// Reads as many bytes.
+fn read_body(body: &mut [u8], size: usize) -> Result<(), Stop>
+    ensures { IfOk result (λ _. size ≤ length body.new) }
 {
-    Header {
-        going: false,
-        code: 0,
-        n: 0,
+    if body.len() < size || io::read_full(STDIN, &mut body[..size]) < size {
+        return Err(Stop::Cut);
     }
+    Ok(())
 }
 
-// Ends the answers with the error line.
-fn stop(record: u64, reason: &[u8]) -> Header
-    ensures { result.going ≡ false }
-{
-    trace_answers::say_error(record, reason);
-    none()
-}
-
-// A record with no fault.
-fn sound(code: u32, n: usize) -> Header
-    ensures { result ≡ header_of code n }
-{
-    Header {
-        going: true,
-        code,
-        n,
-    }
-}
-
-// Holds a record to the format.
-fn checked(record: u64, code: u32, n: usize, w: &[u32]) -> Header
-    ensures { result.going ≡ true → Kept result n w.now }
-{
-    match trace_format::fault_of(code, w) {
-        Fault::Shape => stop(record, b"unknown opcode, or wrong number of words"),
-        Fault::Bound => stop(record, b"a bound is passed"),
-        Fault::Padding => stop(record, b"nonzero padding"),
-        Fault::None => sound(code, n),
-    }
-}
-
-// Reads as many bytes, or answers false.
-fn read_body(body: &mut [u8], size: usize) -> bool
-    ensures { result ≡ true → size ≤ length body.new }
-{
-    if body.len() < size {
-        return false;
-    }
-    io::read_full(STDIN, &mut body[..size]) == size
-}
-
-// Reads the next record: its bytes, and its words. One that is going on keeps the format, and its words are those of the bytes.
-pub fn read_record(record: u64, body: &mut [u8], w: &mut [u32]) -> Header
-    ensures { result.going ≡ true → ReadFrom result body.new w.old w.new }
+// Reads the next record: its bytes, and its words. None where the file ends before it.
+fn read_next(body: &mut [u8], w: &mut [u32]) -> Result<Option<Header>, Stop>
+    ensures { IfOk result (λ h. IfSome h (λ r. ReadFrom r body.new w.old w.new)) }
 {
     let mut head = [0u8; 8];
     let got = io::read_full(STDIN, &mut head);
     if got == 0 {
-        return none();
+        return Ok(None);
     }
     if got < 8 {
-        return stop(record, b"the file ends inside the record");
+        return Err(Stop::Cut);
     }
     let opening = opening_of(head);
     let n = opening.n as usize;
     if MAX_WORDS < n {
-        return stop(record, b"a bound is passed");
+        return Err(Stop::Fault(Fault::Bound));
     }
-    if !read_body(body, 4 * n) {
-        return stop(record, b"the file ends inside the record");
-    }
+    read_body(body, 4 * n)?;
     trace_format::read_words(list_words::bytes_at(body, 0, 4 * n), w);
-    checked(record, opening.code, n, list_words::first_words(w, n))
+    trace_format::fault_of(opening.code, list_words::first_words(w, n))?;
+    Ok(Some(Header {
+        code: opening.code,
+        n,
+    }))
+}
+
+// Reads the next record. It keeps the format, and its words are those of its bytes. None where the answers end.
+pub fn read_record(record: u64, body: &mut [u8], w: &mut [u32]) -> Option<Header>
+    ensures { IfSome result (λ r. ReadFrom r body.new w.old w.new) }
+{
+    match read_next(body, w) {
+        Ok(next) => next,
+        Err(stop) => {
+            trace_answers::say_error(record, stop.reason());
+            None
+        }
+    }
 }

@@ -19,6 +19,6 @@ module _ (code : ℕ) (w : List ℕ) (stacks : List MatrixStack) (slot : ℕ) (e
   no_slot t l = rw (t, sym e, le-ltb slot stack_slots l)
 
   pub put : is_stack_record code ≡ true → slot < stack_slots → (s : MatrixStack)
-      → s ≡ (stack_record code w (get_or stacks slot no_stack)).stack → set stacks slot s ≡ outer_stacks_after code w stacks
+      → s ≡ (stack_record code w (get_or stacks slot no_stack)).after → set stacks slot s ≡ outer_stacks_after code w stacks
   unfolding outer_stacks_after
   put t l s q = rw (t, sym e, lt-ltb slot stack_slots l, q)

@@ -1,6 +1,6 @@
 -- What a record of a trace does to the context and to the areas: the store's, the guest's and the output
 -- (TRACE.md: "Settings", "Calls", "Outer stacks, unsound contexts, state", "Output").
-use Rattle.std.specs.Prelude.{List, ◌++◌, ◌≡◌, ℕ, ◌<◌, ◌≤◌, length, take, drop, Float}
+use Rattle.std.specs.Prelude.{List, ◌++◌, ◌≡◌, ℕ, ◌<◌, ◌≤◌, length, take, drop, Float, Option, Some, None}
 use Rattle.std.specs.Float.{binary32}
 use Rattle.std.specs.Float.Ieee.{of_bits}
 use Rattle.context.specs.declared.Context.{Context}
@@ -21,11 +21,16 @@ use Rattle.trace_unsound.specs.Kinds.{ContextMade}
 abbrev pub marked : List Float → List Float
 marked out = filled (λ i. of_bits binary32 (mark_bits i)) (length out) out
 
+-- the context that a call answers; words that are no call's leave it
+abbrev pub context_after : Context → Option CallReply → Context
+context_after c (Some r) = r.context
+context_after c None = c
+
 -- a call was made with the words of a record and their bytes
 pub record CallDone (c : Context) (code : ℕ) (w bytes s : List ℕ) (out : List Float) (c1 : Context) (s1 : List ℕ) (out1 : List Float) : Type 0 where
-  pub reply : CallReply
+  pub reply : Option CallReply
   pub made : Performs c s out reply s1 out1 (decoded_call bytes (length out) code w)
-  pub context : c1 ≡ reply.context
+  pub context : c1 ≡ context_after c reply
 
 -- a draw was made with the words of a record, on a marked output
 pub record DrawDone (c : Context) (code : ℕ) (w s : List ℕ) (base : ℕ) (guest : List ℕ) (out : List Float) (c1 : Context) (out1 : List Float) : Type 0 where

@@ -1,9 +1,11 @@
 -- Laws of the definitions in specs/Text.antt.
 use Rattle.std.proofs.Common.{append_assoc}
+use Rattle.std.proofs.lemmas.List.FromFn.{fill_by_all}
 use Prim.Native.Nat.{ℕ, zero, suc, ◌+◌, ◌-◌, ◌*◌, ◌/◌, ◌%◌, ◌^◌, ◌<◌, ◌≤◌, min}
 use mathlib.Core.List.{List, [], ◌∷◌, ◌++◌, foldl}
-use mathlib.Core.Path.{◌≡◌, refl, sym, ◌∙◌}
-use native.Mathlib.Nat.{div-div-eq-div-mul, div-lt_iff_lt-mul, le-div_iff_mul-le, div-lt_self, mod-eq_of_lt, pow-suc, one-le-pow, pow-le-pow_right, le_of_suc-le-suc, lt_of_not-le}
+use mathlib.Core.Path.{◌≡◌, refl, sym, ap, ◌∙◌}
+use native.Mathlib.Nat.{div-one, div-div-eq-div-mul, div-lt_iff_lt-mul, le-div_iff_mul-le, div-lt_self, mod-eq_of_lt, pow-suc}
+use native.Mathlib.Nat.{one-le-pow, pow-le-pow_right, le_of_suc-le-suc, lt_of_not-le}
 use native.Mathlib.Numerals.{add-one}
 use native.Mathlib.Omega.{arith}
 use borrow.Author.Tests.{lt-ltb, le-ltb, le-leb, lt-leb}
@@ -30,6 +32,15 @@ pub hex_is : (w : ℕ) {a b c d e f g h : ℕ}
     → a ∷ b ∷ c ∷ d ∷ e ∷ f ∷ g ∷ h ∷ [] ≡ hex w
 unfolding hex
 hex_is w p q r s t u v x = rw (p, q, r, s, t, u, v, x) (simp div-div-eq-div-mul)
+
+-- eight digits by their places
+pub hex_of : (w : ℕ) (text : List ℕ) → length text ≡ 8
+    → get_or text 0 0 ≡ hex_digit_ascii (w / 0x1000_0000 % 16) → get_or text 1 0 ≡ hex_digit_ascii (w / 0x100_0000 % 16)
+    → get_or text 2 0 ≡ hex_digit_ascii (w / 0x10_0000 % 16) → get_or text 3 0 ≡ hex_digit_ascii (w / 0x1_0000 % 16)
+    → get_or text 4 0 ≡ hex_digit_ascii (w / 0x1000 % 16) → get_or text 5 0 ≡ hex_digit_ascii (w / 0x100 % 16)
+    → get_or text 6 0 ≡ hex_digit_ascii (w / 0x10 % 16) → get_or text 7 0 ≡ hex_digit_ascii (w / 1 % 16) → text ≡ hex w
+hex_of w text n a b c d e f g h =
+    fill_by_all (λ k. get_or text k 0) text 8 0 n (λ k l. refl) ∙ hex_is w a b c d e f g (h ∙ ap (λ v. hex_digit_ascii (v % 16)) (div-one w))
 
 -- a list of eight by its elements
 pub eight : (h : List ℕ) (w : ℕ) → h ≡ hex w

@@ -8,11 +8,13 @@ ghost use Rattle.io.specs.Digits.{hex_digit_ascii};
 ghost use Rattle.trace_text.specs.Text.{page, decimal, hex, shown_bits, spaced, put_float, put_each, put_number};
 ghost use Rattle.trace_text.specs.Text.{put_text};
 
+use std::array;
+
 // A place, or the area's end where it lies behind that.
 fn start_of(area: &[u8], at: usize) -> usize
     ensures { result ≡ min at (length area.now) }
 {
-    if at < area.len() { at } else { area.len() }
+    at.min(area.len())
 }
 
 // A text.
@@ -44,23 +46,16 @@ pub fn put_number(area: &mut [u8], at: usize, n: u64) -> usize
 fn digit(w: u32) -> u8
     ensures { result ≡ hex_digit_ascii (w % 16) }
 {
-    let d = (w % 16) as u8;
-    if d < 10 { 48 + d } else { 87 + d }
+    match (w % 16) as u8 {
+        d @ 0..=9 => b'0' + d,
+        d => b'a' - 10 + d,
+    }
 }
 
 fn hex_digits(w: u32) -> [u8; 8]
     ensures { result ≡ hex w }
 {
-    [
-        digit(w / 0x1000_0000),
-        digit(w / 0x100_0000),
-        digit(w / 0x10_0000),
-        digit(w / 0x1_0000),
-        digit(w / 0x1000),
-        digit(w / 0x100),
-        digit(w / 0x10),
-        digit(w),
-    ]
+    array::from_fn(|k| digit(w >> (28 - 4 * k)))
 }
 
 // The eight hexadecimal digits of w.
@@ -95,10 +90,8 @@ pub fn put_numbers(area: &mut [u8], at: usize, numbers: &[u64]) -> usize
     ensures result_after { page area.new result ≡ put_each put_number (page area.old at) numbers.now }
 {
     let mut place = start_of(area, at);
-    let mut i = 0;
-    while i < numbers.len() {
-        place = put_number(area, place, numbers[i]);
-        i += 1;
+    for n in numbers {
+        place = put_number(area, place, *n);
     }
     place
 }
@@ -109,10 +102,8 @@ pub fn put_floats(area: &mut [u8], at: usize, words: &[f32]) -> usize
     ensures result_after { page area.new result ≡ put_each put_float (page area.old at) words.now }
 {
     let mut place = start_of(area, at);
-    let mut i = 0;
-    while i < words.len() {
-        place = put_float(area, place, words[i]);
-        i += 1;
+    for x in words {
+        place = put_float(area, place, *x);
     }
     place
 }

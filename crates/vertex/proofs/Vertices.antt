@@ -7,7 +7,7 @@ use lib.ListN.{get_or}
 use lib.Ieee.{Float}
 use Rattle.number.specs.Numbers.{magnitude}
 use Rattle.matrix.specs.Matrix.{at, transform_row, transformed}
-use Rattle.fetch.specs.declared.Fetched.{Fetched}
+use Rattle.fetch.specs.Fetch.{Fetched}
 use Rattle.arrays.specs.Attributes.{no_pair}
 use Rattle.arrays.specs.declared.Pair.{Pair}
 use Rattle.vertex.specs.Scene.{Scene}

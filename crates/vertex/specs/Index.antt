@@ -2,7 +2,9 @@
 use Rattle.std.specs.Prelude.{cond, List, [], ◌∷◌, ℕ, zero, suc, ◌+◌, ◌-◌, ◌*◌, min, eqb, length, take, drop}
 use Rattle.number.specs.Numbers.{little_endian}
 use Rattle.fetch.specs.Fetch.{Part, bytes, no_buffer, unreadable, part_of}
+use Rattle.number.specs.Tables.{Row, ◌names◌}
 use Rattle.vertex.specs.Scene.{Scene, Source, list, range, elements}
+use Rattle.vertex.specs.declared.IndexType.{IndexType}
 
 -- first, first + 1, and so on: n numbers
 unfoldable pub up_from : ℕ → ℕ → List ℕ
@@ -16,6 +18,14 @@ range_count first count = min (first + count) 4294967295 - first
 -- bytes of an index: 1 for 0x1401, 2 for 0x1403, 0 for an unknown type
 unfoldable pub index_width : ℕ → ℕ
 index_width ty = cond (eqb ty 0x1401) 1 (cond (eqb ty 0x1403) 2 0)
+
+-- the types that the code keeps as choices, and the bytes of each
+abbrev pub index_types : List (Row IndexType)
+index_types = (0x1401 names IndexType.Byte) ∷ (0x1403 names IndexType.Short) ∷ []
+
+abbrev pub type_width : IndexType → ℕ
+type_width IndexType.Byte = 1
+type_width IndexType.Short = 2
 
 -- n little-endian numbers of `width` bytes each
 unfoldable pub numbers : ℕ → ℕ → List ℕ → List ℕ

@@ -1,9 +1,9 @@
 -- The tests of a draw (01: "Questions at the door"), in 01's order: the number of the first test that fails, or 0.
-use Rattle.std.specs.Prelude.{Bool, not, cond, ◌&&◌, ◌||◌, List, ℕ, ◌+◌, ◌*◌, ltb, leb, eqb, length, get_or}
+use Rattle.std.specs.Prelude.{Bool, not, cond, ◌&&◌, ◌||◌, List, ℕ, ◌+◌, ◌*◌, ltb, leb, eqb, length, get_or, Result, Ok, Err}
 use Rattle.buffers.specs.Bounded.{first}
 use Rattle.fetch.specs.Fetch.{part_state, position_number}
 use Rattle.fetch.specs.declared.ArrayPointer.{ArrayPointer}
-use Rattle.fetch.specs.declared.PartState.{PartState}
+use Rattle.fetch.specs.declared.Missing.{Missing}
 use Rattle.vertex.specs.Scene.{Source, list, range, elements, Scene}
 use Rattle.vertex.specs.Index.{index_width, index_part, indices_from}
 use Rattle.vertex.specs.Vertex.{position_of}
@@ -33,10 +33,10 @@ list_number s mode is =
     0)))
 
 -- a range of indices that is not there: 0x0501 in the element buffer, 7 in guest memory
-abbrev pub part_number : ℕ → PartState → ℕ
-part_number element PartState.Found = 0
-part_number element PartState.NoBuffer = 0x0501
-part_number element PartState.Unreadable = cond (eqb element 0) 7 0x0501
+abbrev pub part_number : ℕ → Result Unit Missing → ℕ
+part_number element (Ok u) = 0
+part_number element (Err Missing.NoBuffer) = 0x0501
+part_number element (Err Missing.Unreadable) = cond (eqb element 0) 7 0x0501
 
 -- the tests of a draw whose indices lie in the element buffer or in guest memory
 unfoldable pub elements_number : Scene → ℕ → ℕ → ℕ → ℕ → ℕ

@@ -3,7 +3,7 @@ use Rattle.std.specs.Prelude.{List, ℕ, ◌-◌, ◌/◌, length}
 use Rattle.buffers.specs.Objects.{contents_of}
 use Rattle.vertex.specs.Scene.{Scene}
 use Rattle.vertex.specs.Index.{up_from, numbers}
-use Rattle.vertex.specs.declared.Indices.{Indices}
+use Rattle.vertex.specs.declared.IndexList.{IndexList}
 use Rattle.vertex.specs.declared.DrawInputs.{DrawInputs}
 
 -- the scene of the code's record, over the bytes of store and guest
@@ -21,9 +21,9 @@ scene_in s store guest =
       stages = s.stages;
     }
 
--- the list that the code's kind of indices stands for
-abbrev pub index_list : Indices → List ℕ → List ℕ → List ℕ
-index_list Indices.List is bs = is
-index_list (Indices.Range first end) is bs = up_from first (end - first)
-index_list Indices.Bytes is bs = numbers 1 (length bs) bs
-index_list Indices.Shorts is bs = numbers 2 (length bs / 2) bs
+-- the list that the code's list of indices stands for
+abbrev pub index_list : IndexList → List ℕ
+index_list (IndexList.List is) = is.now
+index_list (IndexList.Range first end) = up_from first (end - first)
+index_list (IndexList.Bytes bs) = numbers 1 (length bs.now) bs.now
+index_list (IndexList.Shorts bs) = numbers 2 (length bs.now / 2) bs.now

@@ -1,11 +1,11 @@
 -- Vertex assembly (01: "Draws"): a vertex is a function of its index.
-use Rattle.std.specs.Prelude.{Bool, true, false, cond, List, [], ◌∷◌, ◌++◌, ℕ, ◌/◌, ◌%◌, ◌^◌, eqb, get_or, Float}
+use Rattle.std.specs.Prelude.{Bool, true, false, cond, List, [], ◌∷◌, ◌++◌, ℕ, ◌/◌, ◌%◌, ◌^◌, eqb, get_or, Float, Ok, Err}
 use Rattle.number.specs.F32.{f0, f1}
 use Rattle.number.specs.Numbers.{magnitude}
 use Rattle.matrix.specs.Matrix.{at, transform_row, transformed}
-use Rattle.fetch.specs.Fetch.{fresh_array, fetched}
+use Rattle.fetch.specs.Fetch.{Fetched, fresh_array, fetched}
 use Rattle.fetch.specs.declared.ArrayPointer.{ArrayPointer}
-use Rattle.fetch.specs.declared.Fetched.{Fetched}
+use Rattle.fetch.specs.declared.FetchFailure.{FetchFailure}
 use Rattle.arrays.specs.Attributes.{no_pair}
 use Rattle.arrays.specs.declared.Pair.{Pair}
 use Rattle.vertex.specs.Scene.{Scene}
@@ -13,11 +13,11 @@ use Rattle.vertex.specs.declared.Vertex.{Vertex}
 
 -- the components that a fetch answers, or others where it fails
 abbrev pub components_or : Fetched → List Float → List Float
-components_or (Fetched.Components v) other = v.x ∷ v.y ∷ v.z ∷ v.w ∷ []
-components_or Fetched.UnknownType other = other
-components_or Fetched.Overflow other = other
-components_or Fetched.NoBuffer other = other
-components_or Fetched.Unreadable other = other
+components_or (Ok v) other = v.x ∷ v.y ∷ v.z ∷ v.w ∷ []
+components_or (Err FetchFailure.UnknownType) other = other
+components_or (Err FetchFailure.Overflow) other = other
+components_or (Err FetchFailure.NoBuffer) other = other
+components_or (Err FetchFailure.Unreadable) other = other
 
 abbrev pub origin : List Float
 origin = f0 ∷ f0 ∷ f0 ∷ f1 ∷ []

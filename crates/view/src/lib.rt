@@ -17,18 +17,20 @@ pub struct GuestView<'a> {
     pub bytes: &'a [u8],
 }
 
-// Whether `len` bytes from `address` on can be read.
-pub fn can_read<'a>(view: GuestView<'a>, address: u32, len: usize) -> bool
-    ensures { result ≡ is_found (in_guest view.entry.base view.entry.bytes.now address len) }
-{
-    fetch::can_read(view.base, view.bytes, address, len)
-}
+impl<'a> GuestView<'a> {
+    // Whether `len` bytes from `address` on can be read.
+    pub fn can_read(self, address: u32, len: usize) -> bool
+        ensures { result ≡ is_found (in_guest self.entry.base self.entry.bytes.now address len) }
+    {
+        fetch::can_read(self.base, self.bytes, address, len)
+    }
 
-// The `len` bytes from `address` on, a part of the view's bytes; none where they cannot be read.
-pub fn read<'a>(view: GuestView<'a>, address: u32, len: usize) -> &'a [u8]
-    ensures { result.now ≡ bytes_in (in_guest view.entry.base view.entry.bytes.now address len) }
-{
-    fetch::read(view.base, view.bytes, address, len)
+    // The `len` bytes from `address` on, a part of the view's bytes; none where they cannot be read.
+    pub fn read(self, address: u32, len: usize) -> &'a [u8]
+        ensures { result.now ≡ bytes_in (in_guest self.entry.base self.entry.bytes.now address len) }
+    {
+        fetch::read(self.base, self.bytes, address, len)
+    }
 }
 
 // A draw of a borrowed list of indices.
@@ -93,6 +95,7 @@ pub fn draw_elements_from_guest<'a>(
 }
 
 // ---- for callers that hold a base address and bytes: each makes the view and calls the draw that takes it
+// Their arguments stay apart, one for one those of the calls of OpenGL ES and of the contracts.
 
 // A draw of a borrowed list of indices.
 pub fn draw_elements_at<'a>(

@@ -1,12 +1,14 @@
--- `assembly::convert` meets its contract: each return is the case of its type.
+-- `assembly::convert` meets its contract: each arm is the case of its type.
 use Prim.Native.Nat.{ℕ, ◌^◌, ◌<◌}
 use mathlib.Core.Bool.{Bool, true, false, cond, ◌||◌}
-use mathlib.Core.Path.{◌≡◌}
+use mathlib.Core.Path.{◌≡◌, ◌∙◌}
 use native.Mathlib.Omega.{arith}
 use lib.Dec.{eqb}
-use mir.Syntax.{w16, w32}
-use borrow.Author.Tests.{eq-eqb, ne_eqb}
+use Rattle.std.proofs.lemmas.Bool.Decides.{nat_tests}
+use mir.Syntax.{w8, w16, w32}
+use borrow.Author.Tests.{ne_eqb}
 use Rattle.number.proofs.TwosComplement.{signed_read}
+use Rattle.number.specs.Numbers.{signed_of}
 use Rattle.fetch.specs.Decode.{component_bytes, component_of}
 use Rattle.assembly.proofs.convert.Goals as goal
 
@@ -20,16 +22,6 @@ narrow ty n a b h = go (eqb ty 0x1400 || eqb ty 0x1401) (eqb ty 0x1402 || eqb ty
     go false true h = omega arith
     go false false h = omega arith
 
-pub returns-then-ty-eq5126 : goal.returns-then-ty-eq5126
-unfolding component_of
-returns-then-ty-eq5126 c = simp (eq-eqb _ _ c.if-ty-eq5126.true) c.f32_of_bits.ensures
-
-pub returns-then-ty-eq5132 : goal.returns-then-ty-eq5132
-unfolding component_of
-returns-then-ty-eq5132 c =
-    simp (ne_eqb _ _ c.if-ty-eq5126.false, eq-eqb _ _ c.if-ty-eq5132.true)
-    (rw (c.signed32.ensures, signed_read w32 0x8000_0000 c.args.n (omega arith) (omega arith)) at c.fixed_to_f32.ensures)
-
 -- a byte and a short are as wide as their types
 byte : (ty n : ℕ) → n < 256 ^ component_bytes ty → ty ≡ 0x1400 → n < 256
 unfolding component_bytes
@@ -39,52 +31,45 @@ short : (ty n : ℕ) → n < 256 ^ component_bytes ty → ty ≡ 0x1402 → n < 
 unfolding component_bytes
 short ty n h e = rw e at h
 
-pub overflow_cast-low : goal.overflow_cast-low
-overflow_cast-low c = record { fits = narrow _ _ c.if-ty-eq5126.false c.if-ty-eq5132.false c.requires }
+pub overflow_cast-n : goal.overflow_cast-n
+overflow_cast-n c = record { fits = byte _ _ c.requires c.in-5120.is }
 
-pub signed16-requires : goal.signed16-requires
-signed16-requires c = (omega arith, byte _ _ c.requires c.if-ty-eq5120.true)
+pub overflow_cast-n-in-5122 : goal.overflow_cast-n-in-5122
+overflow_cast-n-in-5122 c = record { fits = narrow _ _ (λ e. omega arith) (λ e. omega arith) c.requires }
 
-pub returns-then-ty-eq5120 : goal.returns-then-ty-eq5120
+pub overflow_cast-n-in-5121 : goal.overflow_cast-n-in-5121
+overflow_cast-n-in-5121 c = record { fits = narrow _ _ (λ e. omega arith) (λ e. omega arith) c.requires }
+
+pub overflow_cast-n-in_default : goal.overflow_cast-n-in_default
+overflow_cast-n-in_default c = record { fits = narrow _ _ (λ e. grind arith) (λ e. grind arith) c.requires }
+
+pub returns-in-5126 : goal.returns-in-5126
 unfolding component_of
-returns-then-ty-eq5120 c =
-    simp (ne_eqb _ _ c.if-ty-eq5126.false, ne_eqb _ _ c.if-ty-eq5132.false, eq-eqb _ _ c.if-ty-eq5120.true)
-    (rw (c.signed16.ensures, signed_read w16 0x80 c.args.n (omega arith) (byte _ _ c.requires c.if-ty-eq5120.true)) at c.signed_component.ensures)
+returns-in-5126 c = rw c.in-5126.is c.f32_of_bits.ensures
 
-pub signed16-requires-then-ty-eq5122 : goal.signed16-requires-then-ty-eq5122
-signed16-requires-then-ty-eq5122 c = (omega arith, short _ _ c.requires c.if-ty-eq5122.true)
-
-pub returns-then-ty-eq5122 : goal.returns-then-ty-eq5122
+pub returns-in-5132 : goal.returns-in-5132
 unfolding component_of
-returns-then-ty-eq5122 c =
-    simp (
-      ne_eqb _ _ c.if-ty-eq5126.false,
-      ne_eqb _ _ c.if-ty-eq5132.false,
-      ne_eqb _ _ c.if-ty-eq5120.false,
-      eq-eqb _ _ c.if-ty-eq5122.true,
-    )
-    (rw (c.signed16-then-ty-eq5122.ensures, signed_read w16 0x8000 c.args.n (omega arith) (short _ _ c.requires c.if-ty-eq5122.true)) at c.signed_component-then-ty-eq5122.ensures)
+returns-in-5132 c =
+    rw c.in-5132.is
+    (rw (c.signed32.ensures, signed_read w32 0x8000_0000 c.args.n (omega arith) (omega arith)) at c.fixed_to_f32.ensures)
 
-pub returns-then-ty-eq5121 : goal.returns-then-ty-eq5121
+pub returns-in-5120 : goal.returns-in-5120
 unfolding component_of
-returns-then-ty-eq5121 c =
-    simp (
-      ne_eqb _ _ c.if-ty-eq5126.false,
-      ne_eqb _ _ c.if-ty-eq5132.false,
-      ne_eqb _ _ c.if-ty-eq5120.false,
-      ne_eqb _ _ c.if-ty-eq5122.false,
-      eq-eqb _ _ c.if-ty-eq5121.true,
-    )
-    c.unsigned_component.ensures
+returns-in-5120 c =
+    let small = byte _ _ c.requires c.in-5120.is in
+    let read : c.from.result ≡ signed_of 8 c.args.n = c.from.ensures ∙ rw c.cast_signed.ensures (signed_read w8 0x80 c.args.n (omega arith) small) in
+    rw c.in-5120.is (rw (read, signed_read w16 0x80 c.args.n (omega arith) small) at c.signed_component.ensures)
 
-pub returns : goal.returns
+pub returns-in-5122 : goal.returns-in-5122
 unfolding component_of
-returns c =
-    simp (
-      ne_eqb _ _ c.if-ty-eq5126.false,
-      ne_eqb _ _ c.if-ty-eq5132.false,
-      ne_eqb _ _ c.if-ty-eq5120.false,
-      ne_eqb _ _ c.if-ty-eq5122.false,
-      ne_eqb _ _ c.if-ty-eq5121.false,
-    )
-    c.unsigned_component-2.ensures
+returns-in-5122 c =
+    rw c.in-5122.is
+    (rw (c.cast_signed-in-5122.ensures, signed_read w16 0x8000 c.args.n (omega arith) (short _ _ c.requires c.in-5122.is)) at c.signed_component-in-5122.ensures)
+
+pub returns-in-5121 : goal.returns-in-5121
+unfolding component_of
+returns-in-5121 c = rw c.in-5121.is c.unsigned_component.ensures
+
+pub returns-in_default : goal.returns-in_default
+unfolding component_of
+returns-in_default c = let h = c.unsigned_component-in_default.ensures in grind (arith, nat_tests, h)

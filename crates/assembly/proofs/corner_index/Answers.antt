@@ -8,4 +8,4 @@ use Rattle.assembly.proofs.corner_index.Goals as goal
 pub returns : goal.returns
 returns c =
     let a = c.args in
-    c.index_at.ensures ∙ ap (λ (k : ℕ). get_or (index_list a.kind a.list.now a.elements.now) k 0) (c.corner_place.ensures.0 c.requires)
+    c.index.ensures ∙ ap (λ (k : ℕ). get_or (index_list a.list) k 0) (c.corner_place.ensures.0 c.requires)

@@ -1,20 +1,21 @@
 -- `assembly::pairs_at` meets its contract, from what the inner functions ensure.
 use mathlib.Core.Path.{refl}
+use native.Mathlib.Omega.{arith}
 use Rattle.vertex.specs.SceneCode.{scene_in}
 use Rattle.vertex.proofs.Vertices.{texcoords_are}
 use Rattle.assembly.proofs.pairs_at.Goals as goal
 
 pub pair_at-t0-requires : goal.pair_at-t0-requires
-pair_at-t0-requires c = (refl, c.requires.unit0)
+pair_at-t0-requires c = (refl, c.requires.units 0 _ (omega arith))
 
 pub pair_at-t1-requires : goal.pair_at-t1-requires
-pair_at-t1-requires c = (refl, c.requires.unit1)
+pair_at-t1-requires c = (refl, c.requires.units 1 _ (omega arith))
 
 pub pair_at-t2-requires : goal.pair_at-t2-requires
-pair_at-t2-requires c = (refl, c.requires.unit2)
+pair_at-t2-requires c = (refl, c.requires.units 2 _ (omega arith))
 
 pub pair_at-t3-requires : goal.pair_at-t3-requires
-pair_at-t3-requires c = (refl, c.requires.unit3)
+pair_at-t3-requires c = (refl, c.requires.units 3 _ (omega arith))
 
 pub returns : goal.returns
 returns c =

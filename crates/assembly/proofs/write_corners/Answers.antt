@@ -18,7 +18,7 @@ write_planned-requires c = (omega (arith, c.if-out-n.false), c.plan_of-plan.ensu
 pub returns : goal.returns
 returns c =
     let args = c.args in
-    let vertex : ℕ → Vertex = vertex_at (scene_in args.s args.store.now args.guest.now) (index_list args.kind args.list.now args.elements.now) in (
+    let vertex : ℕ → Vertex = vertex_at (scene_in args.s args.store.now args.guest.now) (index_list args.list) in (
       λ _. c.write_planned.ensures ∙ ap (sets args.out.now 0) (corners_front vertex args.p args.n),
       λ h. absurd (omega (arith, h, c.if-out-n.false)),
     )

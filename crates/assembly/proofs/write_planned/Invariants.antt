@@ -1,6 +1,6 @@
-use Prim.Native.Nat.{ℕ, ◌-◌, ◌≤◌}
 use mathlib.Core.List.{List}
 use mathlib.Core.Path.{◌≡◌}
+use Prim.Native.Nat.{ℕ}
 use lib.Seq.{sets}
 use Rattle.corners.specs.Places.{corner_place}
 use Rattle.corners.specs.declared.Primitive.{Primitive}
@@ -16,8 +16,4 @@ abbrev pub corner : Scene → Primitive → List ℕ → ℕ → Vertex
 corner s p is q = vertex_at s is (corner_place p q)
 
 abbrev pub invariant-loop-c : goal.invariant-loop-c
-invariant-loop-c l =
-    (l.c ≤ l.n) × (l.out ≡ sets l.initial.out 0 (corner_words (corner (scene_in l.s l.store l.guest) l.p (index_list l.kind l.list l.elements)) l.c))
-
-abbrev pub decreases-loop-c : goal.decreases-loop-c
-decreases-loop-c l = l.n - l.c
+invariant-loop-c l = l.out ≡ sets l.initial.out 0 (corner_words (corner (scene_in l.s l.store l.guest) l.p (index_list l.list)) l.c)

@@ -7,14 +7,10 @@ use Rattle.assembly.specs.Triangles.{vertex_at}
 use Rattle.assembly.proofs.CornerLists.{triangles_front}
 use Rattle.draw.proofs.write_triangles.Goals as goal
 
-pub overflow_mul-count : goal.overflow_mul-count
-overflow_mul-count c =
-    omega (arith, c.well_formed.1.1.1.1.1.1.1.1.0, c.requires)
-
 pub returns : goal.returns
 returns c =
     let args = c.args in
     c.write_corners.ensures.0 (omega (arith, c.requires))
     ∙ ap (sets args.out.now 0)
-    (triangles_front (vertex_at (scene_in args.s args.store.now args.guest.now) (index_list args.kind args.list.now args.elements.now))
+    (triangles_front (vertex_at (scene_in args.s args.store.now args.guest.now) (index_list args.list))
     args.p args.count)

@@ -1,6 +1,7 @@
 -- `gles_arrays::set_client_active_texture` meets its contract, from the call on the arrays.
+use borrow.Author.Rules.{rules}
 use Rattle.context.proofs.Entries.{arrays_do}
 use Rattle.gles_arrays.proofs.set_client_active_texture.Goals as goal
 
 pub returns : goal.returns
-returns c = arrays_do _ _ _ _ (c.set_client_active_texture.ensures _) c.answer_arrays.ensures
+returns c = arrays_do c.change.ensures _ (λ done after p. search rules)

@@ -10,7 +10,7 @@ returns-then-not-is_ready c =
     let a = c.args in
     let d = draw_call (range a.first a.count) a.mode a.stages a.base a.guest.now (length a.out.now) in
     let h = draw_unready d a.c a.store.now a.out.now (c.is_ready.ensures.no c.if-not-is_ready.true) in
-    record { did = h.0; drew = h.1 }
+    rw c.refuse.ensures (record { did = h.0; drew = h.1 })
 
 pub returns : goal.returns
 returns c =

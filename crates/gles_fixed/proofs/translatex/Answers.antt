@@ -10,4 +10,4 @@ returns c =
     let x = converted _ fits.x c.fixed_to_f32.ensures in
     let y = converted _ fits.y c.fixed_to_f32-2.ensures in
     let z = converted _ fits.z c.fixed_to_f32-3.ensures in
-    product_does _ _ _ (λ x. refl) refl c.currents-currents.ensures (rw (x, y, z) at c.translate-m.ensures) c.multiply.ensures c.answer_currents.ensures
+    product_does _ _ _ (λ x. refl) refl refl (rw (x, y, z) at c.translate-m.ensures) refl c.multiply.ensures

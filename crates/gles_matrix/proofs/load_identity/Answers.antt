@@ -4,4 +4,4 @@ use Rattle.context.proofs.Entries.{load_does}
 use Rattle.gles_matrix.proofs.load_identity.Goals as goal
 
 pub returns : goal.returns
-returns c = load_does _ _ _ (λ x. refl) refl c.currents-currents.ensures c.put.ensures c.answer_currents.ensures
+returns c = load_does _ _ _ (λ x. refl) refl refl refl c.load.ensures

@@ -4,4 +4,4 @@ use Rattle.context.proofs.Entries.{product_does}
 use Rattle.gles_matrix.proofs.mult_matrix.Goals as goal
 
 pub returns : goal.returns
-returns c = product_does _ _ _ (λ x. refl) refl c.currents-currents.ensures refl c.multiply.ensures c.answer_currents.ensures
+returns c = product_does _ _ _ (λ x. refl) refl refl refl refl c.multiply.ensures

@@ -4,5 +4,4 @@ use Rattle.context.proofs.Entries.{product_does}
 use Rattle.gles_matrix.proofs.rotate.Goals as goal
 
 pub returns : goal.returns
-returns c =
-    product_does _ _ _ (λ x. refl) refl c.currents-currents.ensures c.rotate.ensures c.multiply.ensures c.answer_currents.ensures
+returns c = product_does _ _ _ (λ x. refl) refl refl c.rotate.ensures refl c.multiply.ensures

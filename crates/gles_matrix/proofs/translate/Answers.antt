@@ -4,5 +4,4 @@ use Rattle.context.proofs.Entries.{product_does}
 use Rattle.gles_matrix.proofs.translate.Goals as goal
 
 pub returns : goal.returns
-returns c =
-    product_does _ _ _ (λ x. refl) refl c.currents-currents.ensures c.translate.ensures c.multiply.ensures c.answer_currents.ensures
+returns c = product_does _ _ _ (λ x. refl) refl refl c.translate.ensures refl c.multiply.ensures

@@ -1,6 +1,7 @@
 -- `gles_pipeline::set_depth_range` meets its contract, from the call on the settings.
+use borrow.Author.Rules.{rules}
 use Rattle.context.proofs.Entries.{pipeline_does}
 use Rattle.gles_pipeline.proofs.set_depth_range.Goals as goal
 
 pub returns : goal.returns
-returns c = pipeline_does _ _ _ _ c.set_depth_range.ensures c.answer_pipeline.ensures
+returns c = pipeline_does c.change.ensures _ (λ done after p. search rules)

@@ -1,6 +1,5 @@
 -- `list_buffers::make_gen` meets its contract.
-use mathlib.Core.Path.{refl}
 use Rattle.list_buffers.proofs.make_gen.Goals as goal
 
-pub returns : goal.returns
-returns c = (refl, c.gen_buffers-g.ensures.does, c.gen_buffers-g.ensures.first)
+pub returns-clause-did : goal.returns-clause-did
+returns-clause-did c = rw c.into.ensures c.gen_buffers.ensures.does

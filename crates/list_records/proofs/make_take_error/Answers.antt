@@ -1,6 +1,5 @@
 -- `list_records::make_take_error` meets its contract.
-use mathlib.Core.Path.{refl}
 use Rattle.list_records.proofs.make_take_error.Goals as goal
 
-pub returns : goal.returns
-returns c = (refl, c.take_error-e.ensures.does, c.take_error-e.ensures.code)
+pub returns-clause-does : goal.returns-clause-does
+returns-clause-does c = rw c.into.ensures c.take_error.ensures.does

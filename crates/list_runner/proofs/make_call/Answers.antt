@@ -3,15 +3,12 @@ use mathlib.Core.Path.{sym, ◌∙◌}
 use Rattle.list_runner.proofs.Calls.{no_record_call, a_record_call}
 use Rattle.list_runner.proofs.make_call.Goals as goal
 
-pub returns-then-not-is_record : goal.returns-then-not-is_record
-returns-then-not-is_record c =
-    let a = c.args in
-    no_record_call a.bytes.now _ a.code a.w.now (sym c.is_record.ensures ∙ c.if-not-is_record.true)
+pub returns-then-is_record : goal.returns-then-is_record
+returns-then-is_record c =
+    let r = c.args.record in
+    a_record_call r.bytes.now _ r.code r.words.now (sym c.is_record.ensures ∙ c.if-is_record.true) c.perform.ensures
 
-pub returns : goal.returns
-returns c =
-    let a = c.args in
-    let is-record = c.is_record.ensures in
-    let if1 = c.if-not-is_record.false in
-    let perform = c.perform.ensures in
-    a_record_call a.bytes.now _ a.code a.w.now (sym is-record ∙ if1) perform
+pub returns-else-is_record : goal.returns-else-is_record
+returns-else-is_record c =
+    let r = c.args.record in
+    no_record_call r.bytes.now _ r.code r.words.now (sym c.is_record.ensures ∙ c.if-is_record.false)

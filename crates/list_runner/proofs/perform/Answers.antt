@@ -1,73 +1,51 @@
 -- `list_runner::perform` meets its contract: each group makes its calls.
 use mathlib.Core.Path.{refl, ap, ◌∙◌}
-use lib.Ieee.{Float}
 use mathlib.Core.List.{List}
+use native.Mathlib.Omega.{arith}
+use lib.Ieee.{Float}
 use Rattle.context.specs.Calls.{matrix, mode}
 use Rattle.list_records.specs.Encoding.{matrix_of}
-use Rattle.list_runner.proofs.Calls.{is_mode, is_matrix, is_buffer, is_array, is_attribute, is_pipeline, is_take_error, is_draw_law}
-use Rattle.list_runner.proofs.Calls.{performs, performs_value, performs_buffer, performs_draw}
+use Rattle.list_runner.proofs.Calls.{is_mode, is_matrix, is_buffer, is_array, is_attribute, is_pipeline, is_take_error, is_draw_law, performed, performed_draw}
 use Rattle.list_runner.proofs.perform.Goals as goal
 
-pub returns-then-code-eq16 : goal.returns-then-code-eq16
-returns-then-code-eq16 c =
-    let a = c.args in
-    let if1 = c.if-code-eq16.true in
-    performs (ap mode c.word_at.ensures ∙ is_mode a.bytes.now _ a.code a.w.now if1) c.replied.ensures
-    c.set_matrix_mode.ensures refl refl
+pub returns-in-16 : goal.returns-in-16
+returns-in-16 c =
+    let r = c.args.record in
+    rw c.into.ensures (performed (ap mode c.word.ensures ∙ is_mode r.bytes.now _ r.code r.words.now c.in-16.is) (c.set_matrix_mode.ensures _) refl refl)
 
-pub returns-then-code-lt32 : goal.returns-then-code-lt32
-returns-then-code-lt32 c =
-    let a = c.args in
-    let if1 = c.if-code-eq16.false in
-    let if2 = c.if-code-lt32.true in
-    performs
-    (ap (λ (f : List Float). matrix (matrix_of a.code f)) c.matrix_floats.ensures ∙ is_matrix a.bytes.now _ a.code a.w.now if1 if2)
-    c.replied-then-code-lt32.ensures c.make_matrix.ensures refl refl
+pub returns-in-80 : goal.returns-in-80
+returns-in-80 c =
+    let r = c.args.record in
+    performed (is_take_error r.bytes.now _ r.code r.words.now c.in-80.is) (c.make_take_error.ensures.does _) refl c.make_take_error.ensures.value
 
-pub returns-then-code-lt48 : goal.returns-then-code-lt48
-returns-then-code-lt48 c =
-    let a = c.args in
-    let if2 = c.if-code-lt32.false in
-    let if3 = c.if-code-lt48.true in
-    performs_buffer (is_buffer a.bytes.now _ a.code a.w.now if2 if3) (c.make_buffer.ensures.made, c.make_buffer.ensures.value)
+pub returns-in-0-to-31 : goal.returns-in-0-to-31
+returns-in-0-to-31 c =
+    let r = c.args.record in
+    let floats = ap (λ (f : List Float). matrix (matrix_of r.code f)) c.matrix_floats.ensures in
+    rw c.into-in-0-to-31.ensures
+    (performed (floats ∙ is_matrix r.bytes.now _ r.code r.words.now (λ e. absurd (omega arith)) (omega arith)) (c.make_matrix.ensures _) refl refl)
 
-pub returns-then-code-lt54 : goal.returns-then-code-lt54
-returns-then-code-lt54 c =
-    let a = c.args in
-    let if3 = c.if-code-lt48.false in
-    performs (is_array a.bytes.now _ a.code a.w.now if3 c.if-code-lt54.true) c.replied-then-code-lt54.ensures c.array_record.ensures refl refl
+pub returns-in-32-to-47 : goal.returns-in-32-to-47
+returns-in-32-to-47 c =
+    let r = c.args.record in
+    performed (is_buffer r.bytes.now _ r.code r.words.now (omega arith) (omega arith)) c.make_buffer.ensures.did refl c.make_buffer.ensures.value
 
-pub returns-then-code-lt64 : goal.returns-then-code-lt64
-returns-then-code-lt64 c =
-    let a = c.args in
-    let if3 = c.if-code-lt48.false in
-    let if4 = c.if-code-lt54.false in
-    performs (is_attribute a.bytes.now _ a.code a.w.now if3 if4 c.if-code-lt64.true) c.replied-then-code-lt64.ensures c.attribute_record.ensures refl refl
+pub returns-in-48-to-53 : goal.returns-in-48-to-53
+returns-in-48-to-53 c =
+    let r = c.args.record in
+    rw c.into-in-48-to-53.ensures (performed (is_array r.bytes.now _ r.code r.words.now (omega arith) (omega arith)) (c.array_record.ensures _) refl refl)
 
-pub returns-then-code-lt80 : goal.returns-then-code-lt80
-returns-then-code-lt80 c =
-    let a = c.args in
-    let if3 = c.if-code-lt48.false in
-    let if4 = c.if-code-lt54.false in
-    let if5 = c.if-code-lt64.false in
-    performs (is_pipeline a.bytes.now _ a.code a.w.now if3 if4 if5 c.if-code-lt80.true) c.replied-then-code-lt80.ensures
-    c.pipeline_record.ensures refl refl
+pub returns-in-54-to-63 : goal.returns-in-54-to-63
+returns-in-54-to-63 c =
+    let r = c.args.record in
+    rw c.into-in-54-to-63.ensures (performed (is_attribute r.bytes.now _ r.code r.words.now (omega arith) (omega arith)) (c.attribute_record.ensures _) refl refl)
 
-pub returns-then-code-eq80 : goal.returns-then-code-eq80
-returns-then-code-eq80 c =
-    let a = c.args in
-    let if3 = c.if-code-lt48.false in
-    let if4 = c.if-code-lt54.false in
-    let if5 = c.if-code-lt64.false in
-    performs_value (is_take_error a.bytes.now _ a.code a.w.now if3 if4 if5 c.if-code-lt80.false c.if-code-eq80.true) c.make_take_error.ensures refl
+pub returns-in-64-to-79 : goal.returns-in-64-to-79
+returns-in-64-to-79 c =
+    let r = c.args.record in
+    rw c.into-in-64-to-79.ensures (performed (is_pipeline r.bytes.now _ r.code r.words.now (omega arith) (omega arith)) (c.pipeline_record.ensures _) refl refl)
 
-pub returns : goal.returns
-returns c =
-    let a = c.args in
-    let if3 = c.if-code-lt48.false in
-    let if4 = c.if-code-lt54.false in
-    let if5 = c.if-code-lt64.false in
-    let if6 = c.if-code-lt80.false in
-    let if7 = c.if-code-eq80.false in
-    let make-draw = c.make_draw.ensures in
-    performs_draw (is_draw_law a.bytes.now _ a.code a.w.now if3 if4 if5 if6 if7) c.drawn.ensures make-draw
+pub returns-in_default : goal.returns-in_default
+returns-in_default c =
+    let r = c.args.record in
+    rw c.into-in_default.ensures (performed_draw (is_draw_law r.bytes.now _ r.code r.words.now (omega arith)) c.make_draw.ensures)

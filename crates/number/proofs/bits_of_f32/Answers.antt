@@ -1,16 +1,9 @@
--- `number::bits_of_f32` meets its contract: a NaN, and nothing else, differs from itself.
-use Rattle.std.proofs.Common.{T, sym, ap, subst, rules}
+-- `number::bits_of_f32` meets its contract: a NaN has one pattern.
+use Rattle.std.proofs.Common.{sym, ap, ◌∙◌}
 use lib.Ieee.{binary32, to_bits}
-use lib.Ieee.Compare.{differs_from_itself}
-use Rattle.number.proofs.Floats.{number}
+use Rattle.number.proofs.Floats.{only_nan}
 use Rattle.number.proofs.bits_of_f32.Goals as goal
 
-pub float_to_bits-result : goal.float_to_bits-result
-float_to_bits-result c = number c.args.x c.if-x.false
-
-pub returns-then-x : goal.returns-then-x
+pub returns-then-is_nan : goal.returns-then-is_nan
 unfolding to_bits
-returns-then-x c = sym (ap (to_bits binary32) (differs_from_itself c.args.x (subst T (sym c.if-x.true) tt)))
-
-pub returns-else-x : goal.returns-else-x
-returns-else-x c = search rules
+returns-then-is_nan c = sym (ap (to_bits binary32) (only_nan c.args.x (sym c.is_nan.ensures.value ∙ c.if-is_nan.true)))

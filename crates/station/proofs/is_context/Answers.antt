@@ -1,8 +1,12 @@
-use Rattle.station.proofs.Parts.{refuses, both}
+use mathlib.Core.Path.{refl}
+use Rattle.context.specs.declared.MatrixMode.{MatrixMode}
+use Rattle.context.specs.Rules.{matrix_modes, mode_code}
+use Rattle.station.proofs.Parts.{own_code, refuses, both}
 use Rattle.station.proofs.is_context.Goals as goal
 
-pub returns-then-not-is_mode : goal.returns-then-not-is_mode
-returns-then-not-is_mode c = refuses c.is_mode.ensures c.if-not-is_mode.true (λ h. h.0)
+pub returns-then-is_enumerant : goal.returns-then-is_enumerant
+returns-then-is_enumerant c = both ((own_code matrix_modes mode_code MatrixMode.Modelview refl c.is_enumerant.ensures).yes c.if-is_enumerant.true) c.are_settings.ensures
 
-pub returns : goal.returns
-returns c = both (c.is_mode.ensures.yes c.if-not-is_mode.false) c.are_settings.ensures
+pub returns-else-is_enumerant : goal.returns-else-is_enumerant
+returns-else-is_enumerant c =
+    rw c.if-is_enumerant.false (refuses (own_code matrix_modes mode_code MatrixMode.Modelview refl c.is_enumerant.ensures) c.if-is_enumerant.false (λ h. h.0))

@@ -76,7 +76,7 @@ returns-in-98 c = rw c.in-98.is
 
 pub returns-in-112 : goal.returns-in-112
 unfolding has_size
-returns-in-112 c = rw (c.in-112.is, c.smaller.ensures)
+returns-in-112 c = rw (c.in-112.is, c.min.ensures)
 
 pub returns-in-113 : goal.returns-in-113
 unfolding has_size

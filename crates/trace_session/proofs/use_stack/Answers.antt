@@ -1,7 +1,8 @@
 -- `use_stack` meets its contract.
-use mathlib.Core.Path.{ap}
-use Rattle.stack.specs.declared.StackAnswer.{StackAnswer}
+use Rattle.std.proofs.Common.{ap}
+use Rattle.refusal.specs.Refusals.{Answer}
+use Rattle.stack.specs.declared.MatrixStack.{MatrixStack}
 use Rattle.trace_session.proofs.use_stack.Goals as goal
 
 pub returns : goal.returns
-returns c = ap (λ (a : StackAnswer). a.stack) c.stack_answer-r.ensures
+returns c = ap (λ (a : Answer MatrixStack). a.after) c.stack_answer-done.ensures

@@ -1,15 +1,16 @@
--- `text::hex_digits` meets its contract.
-use Rattle.trace_text.proofs.Laws.{hex_is}
+-- `text::hex_digits` meets its contract: each element is what the closure gives at its place.
+use Rattle.std.proofs.Common.{rules}
+use Rattle.trace_text.proofs.Laws.{hex_of}
 use Rattle.trace_text.proofs.hex_digits.Goals as goal
 
 pub returns : goal.returns
 returns c =
-    hex_is c.args.w
-    c.digit.ensures
-    c.digit-2.ensures
-    c.digit-3.ensures
-    c.digit-4.ensures
-    c.digit-5.ensures
-    c.digit-6.ensures
-    c.digit-7.ensures
-    c.digit-8.ensures
+    hex_of c.args.w c.from_fn.result c.from_fn.ensures.items.long
+    (search rules)
+    (search rules)
+    (search rules)
+    (search rules)
+    (search rules)
+    (search rules)
+    (search rules)
+    (search rules)

@@ -1,0 +1,7 @@
+-- `list_words::floats`: the places before i are filled.
+use Rattle.std.proofs.Common.{◌≡◌, take, length}
+use Rattle.list_words.specs.Words.{float_at, each_from}
+use Rattle.list_words.proofs.floats.Given as goal
+
+abbrev pub invariant-loop-i : goal.invariant-loop-i
+invariant-loop-i g l = (length l.out ≡ g.row.N) × (take l.i l.out ≡ each_from (float_at l.fn.w) 0 l.i)
