@@ -363,7 +363,7 @@ fn coordinates<'a>(s: DrawInputs, e: Prepared, store: &'a [u8], guest: &'a [u8],
 
 // The pair of a unit, whose bit in the mask of stages is `place`.
 fn pair_at<'a>(
-    s: DrawInputs,
+    s: &DrawInputs,
     e: Prepared,
     store: &'a [u8],
     guest: &'a [u8],
@@ -371,8 +371,8 @@ fn pair_at<'a>(
     unit: usize,
     place: u32,
 ) -> Pair
-    requires { (place ≡ 2 ^ unit) × PreparesFor (scene_in s store.now guest.now) store.now (unit_array (scene_in s store.now guest.now) unit) e }
-    ensures { result ≡ pair_of (scene_in s store.now guest.now) index unit }
+    requires { (place ≡ 2 ^ unit) × PreparesFor (scene_in s.now store.now guest.now) store.now (unit_array (scene_in s.now store.now guest.now) unit) e }
+    ensures { result ≡ pair_of (scene_in s.now store.now guest.now) index unit }
 {
     if !has_stage(s.stages, place) {
         return Pair { s: 0.0, t: 0.0 };
@@ -380,7 +380,7 @@ fn pair_at<'a>(
     if !e.array.enabled {
         return s.attributes.unit_pair(unit);
     }
-    transform_pair(s.texture, coordinates(s, e, store, guest, index))
+    transform_pair(s.texture, coordinates(*s, e, store, guest, index))
 }
 
 // The arrays of a scene, prepared: once a draw.
@@ -421,10 +421,10 @@ fn pairs_at<'a>(s: DrawInputs, p: Plan, store: &'a [u8], guest: &'a [u8], index:
     ensures { result ≡ texcoords_of (scene_in s store.now guest.now) index }
 {
     let [e0, e1, e2, e3] = p.units;
-    let t0 = pair_at(s, e0, store, guest, index, 0, 1);
-    let t1 = pair_at(s, e1, store, guest, index, 1, 2);
-    let t2 = pair_at(s, e2, store, guest, index, 2, 4);
-    let t3 = pair_at(s, e3, store, guest, index, 3, 8);
+    let t0 = pair_at(&s, e0, store, guest, index, 0, 1);
+    let t1 = pair_at(&s, e1, store, guest, index, 1, 2);
+    let t2 = pair_at(&s, e2, store, guest, index, 2, 4);
+    let t3 = pair_at(&s, e3, store, guest, index, 3, 8);
     [t0.s, t0.t, t1.s, t1.t, t2.s, t2.t, t3.s, t3.t]
 }
 

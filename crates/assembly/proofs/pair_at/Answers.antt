@@ -15,25 +15,25 @@ has_stage-requires c = rw c.requires.0 (pow_pos c.args.unit)
 
 pub returns-then-not-has_stage : goal.returns-then-not-has_stage
 returns-then-not-has_stage c =
-    let s = scene_in c.args.s c.args.store.now c.args.guest.now in
+    let s = scene_in c.args.s.now c.args.store.now c.args.guest.now in
     pair_none s c.args.index c.args.unit
     (sym (c.has_stage.ensures c.args.unit c.requires.0) ∙ c.if-not-has_stage.true)
 
 pub returns-then-not-e : goal.returns-then-not-e
 returns-then-not-e c =
     c.unit_pair.ensures
-    ∙ pair_off (scene_in c.args.s c.args.store.now c.args.guest.now) c.args.index c.args.unit
+    ∙ pair_off (scene_in c.args.s.now c.args.store.now c.args.guest.now) c.args.index c.args.unit
     (sym (c.has_stage.ensures c.args.unit c.requires.0) ∙ c.if-not-has_stage.false)
     (ap (λ (a : ArrayPointer). a.enabled) (sym c.requires.1.array) ∙ not-true c.args.e.array.enabled c.if-not-e.true)
 
 pub coordinates-requires : goal.coordinates-requires
 coordinates-requires c =
-    let s = scene_in c.args.s c.args.store.now c.args.guest.now in
+    let s = scene_in c.args.s.now c.args.store.now c.args.guest.now in
     own_array s c.args.store.now c.args.e c.requires.1
 
 pub returns : goal.returns
 returns c =
-    let s = (scene_in c.args.s c.args.store.now c.args.guest.now) in
+    let s = (scene_in c.args.s.now c.args.store.now c.args.guest.now) in
     pair_on s c.args.index c.args.unit
     (sym (c.has_stage.ensures c.args.unit c.requires.0) ∙ c.if-not-has_stage.false)
     (ap (λ (a : ArrayPointer). a.enabled) (sym c.requires.1.array) ∙ not-false c.args.e.array.enabled c.if-not-e.false)
