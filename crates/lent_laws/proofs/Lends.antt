@@ -44,14 +44,14 @@ use denote.Triple.Clauses.{Clauses, at_exit, closing, ensured, lasts}
 use denote.Triple.Walked.{Stays, stay_none, walk_of, Goes-none, Walks, ends_at, walked, walk_Meets}
 use denote.Exit.{yes}
 use Rattle.stack.specs.declared.MatrixStack.{MatrixStack}
-use Rattle.lent_laws.specs.declared.StackAnswer.{StackAnswer}
+use Rattle.lent_stack.specs.declared.StackAnswer.{StackAnswer}
 use Rattle.stack.specs.contracts.MatrixStack as T
 use Rattle.stack.proofs.MatrixStack.TheLaws as T'
-use Rattle.lent_laws.specs.contracts.StackAnswer as S
-use Rattle.lent_laws.proofs.StackAnswer.TheLaws as S'
+use Rattle.lent_stack.specs.contracts.StackAnswer as S
+use Rattle.lent_stack.proofs.StackAnswer.TheLaws as S'
 use Rattle.lent_laws.proofs.Lent.{mach, beside}
-use Rattle.lent_laws.specs.contracts.push_lent as callee
-use Rattle.lent_laws.specs.contracts.push_lending as this
+use Rattle.lent_stack.specs.contracts.push as callee
+use Rattle.lent_stack.specs.contracts.pushed as this
 
 abbrev pub function : Key → Fn
 function g = record {

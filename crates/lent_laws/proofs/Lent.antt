@@ -43,13 +43,13 @@ use denote.Triple.Call.{calls_at}
 use denote.Triple.Clauses.{Clauses, at_exit, closing, ensured, lasts}
 use denote.Triple.Walked.{Stays, stay_ref, walk_of, Goes-ref, Walks, ends_at, walked, walk_Meets}
 use Rattle.stack.specs.declared.MatrixStack.{MatrixStack}
-use Rattle.lent_laws.specs.declared.StackAnswer.{StackAnswer}
+use Rattle.lent_stack.specs.declared.StackAnswer.{StackAnswer}
 use Rattle.stack.specs.contracts.MatrixStack as T
 use Rattle.stack.proofs.MatrixStack.TheLaws as T'
-use Rattle.lent_laws.specs.contracts.StackAnswer as S
-use Rattle.lent_laws.proofs.StackAnswer.TheLaws as S'
-use Rattle.lent_laws.specs.contracts.push as callee
-use Rattle.lent_laws.specs.contracts.push_lent as this
+use Rattle.lent_stack.specs.contracts.StackAnswer as S
+use Rattle.lent_stack.proofs.StackAnswer.TheLaws as S'
+use Rattle.lent_stack.specs.contracts.answer_push as callee
+use Rattle.lent_stack.specs.contracts.push as this
 
 abbrev pub function : Key → Fn
 function g = record {
