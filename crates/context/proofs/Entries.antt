@@ -15,7 +15,7 @@ use Rattle.std.specs.Result.{result_and}
 use Rattle.number.specs.Decides.{Decides}
 use Rattle.number.specs.Tables.{lookup}
 use Rattle.refusal.specs.declared.Refusal.{Refusal}
-use Rattle.refusal.specs.Refusals.{refusal_number, number_in, Answer, answer, answered}
+use Rattle.refusal.specs.Refusals.{refusal_number, number_in, Answer, answer}
 use Rattle.matrix.specs.Matrix.{product}
 use Rattle.stack.specs.Stack as stack
 use Rattle.stack.specs.declared.MatrixStack.{MatrixStack}
@@ -48,7 +48,7 @@ use Rattle.context.specs.Calls.{BufferCall, gen_buffers, bind_buffer, delete_buf
 use Rattle.context.specs.Rules.{matrix_modes, known_number, mode_after, same_mode, buffer_answer, makes_name, drawing, slot_after}
 use Rattle.context.specs.Contract.{put_stack, put_buffers, put_error, noted, Valid, RefusalKeeps, Follows, Did, Does, Drew, draw_call}
 use Rattle.context.specs.ContractCode.{SoundApart, current_at, put_current, currents_of, with_current, put_currents, put_mode, put_stacks, put_arrays, put_attributes}
-use Rattle.context.specs.ContractCode.{put_pipeline, reply, currents_reply, multiplied, Changed, Settled, inputs_for}
+use Rattle.context.specs.ContractCode.{put_pipeline, reply, currents_reply, multiplied, Settled, inputs_for}
 
 -- ---- soundness
 
@@ -280,122 +280,99 @@ module _ (u : stack.MatrixUpdate) (c : Context) where
 
 -- ---- calls that change one part of the context
 
--- one stack of a context replaced
-abbrev pub put_stack_in : MatrixMode → MatrixStack → Context → Context
-put_stack_in m t c = put_stacks (put_stack m t c.stacks) c
+-- mode calls
+pub mode_does : (code : ℕ) (c : Context) (n : ℕ) (m : MatrixMode) → Sound c
+    → answer n m ≡ answer (known_number (lookup matrix_modes code)) (mode_after code c.mode) → Does (calls.mode code) c n (noted n (put_mode m c))
+mode_does code c n m h e =
+    does (calls.mode code) c refl n _ h
+    (subst (λ (x : Answer MatrixMode). (s : List ℕ) → Follows (calls.mode code) c s x.number (noted x.number (put_mode x.after c)) s) (sym e)
+    (λ s. record {
+      number = refl;
+      state = refl;
+      sound = record { stacks = h.stacks; buffers = h.buffers; client_unit_in = h.client_unit_in; active_unit_in = h.active_unit_in };
+      stacks = refl;
+      slots = λ _. refl;
+      free = free_same;
+      refusal = λ q. (inl (stays (lookup matrix_modes code) q), refl);
+    }))
+  where
+    new : Option MatrixMode → Answer MatrixMode
+    new x = answer (known_number x) (get_or x c.mode)
 
--- what a call makes of a sound context, where it makes of one part what the rules say, and leaves the others
-changed_part : {A : Type 0} (part : Context → A) (put : A → Context → Context) (new : Answer A) {c : Context} {out : Reply} {Call : Result Unit Refusal → Context → Type 0}
-    → Changed Call c out → ((done : Result Unit Refusal) (after : Context) → Call done after → (answered done (part after) ≡ new) × (after ≡ put (part after) c))
-    → Settled c (reply new.number (noted new.number (put new.after c))) out
-changed_part {A} part put made {c = c} g f =
-    record {
-      sound = λ h.
-          let x = g.sound h in
-          let kept = f x.0 x.1 x.2 in
-          x.3 ∙ ap (λ y. reply (number_in x.0) (noted (number_in x.0) y)) kept.1
-          ∙ ap (λ (y : Answer A). reply y.number (noted y.number (put y.after c))) kept.0;
-      unsound = g.unsound;
-    }
+    stays : (x : Option MatrixMode) → ((new x).number ≡ 0 → ⊥) → noted (new x).number (put_mode (new x).after c) ≡ noted (new x).number c
+    stays (some x) q = absurd (q refl)
+    stays none q = refl
 
-module _ {c : Context} {out : Reply} {Call : Result Unit Refusal → Context → Type 0} (g : Changed Call c out) where
-  -- mode calls
-  pub mode_does : (code : ℕ)
-      → ((done : Result Unit Refusal) (after : Context) → Call done after
-      → (answered done after.mode ≡ answer (known_number (lookup matrix_modes code)) (mode_after code c.mode)) × (after ≡ put_mode after.mode c))
-      → Does (calls.mode code) c out.number out.context
-  mode_does code f =
-      settled_does (calls.mode code) c refl _ out (changed_part (λ x. x.mode) put_mode (new (lookup matrix_modes code)) g f)
-      (λ h s. record {
-        number = refl;
-        state = refl;
-        sound = record { stacks = h.stacks; buffers = h.buffers; client_unit_in = h.client_unit_in; active_unit_in = h.active_unit_in };
-        stacks = refl;
-        slots = λ _. refl;
-        free = free_same;
-        refusal = λ q. (inl (stays (lookup matrix_modes code) q), refl);
-      })
-    where
-      new : Option MatrixMode → Answer MatrixMode
-      new m = answer (known_number m) (get_or m c.mode)
+-- push and pop, on the stack of the mode in force
+pub stack_does : (k : stack.MatrixCall) (c : Context) (m : MatrixMode) (n : ℕ) (t : MatrixStack) → Sound c → c.mode ≡ m
+    → answer n t ≡ stack.stack_answer k (stack_at m c.stacks) → Does (calls.matrix k) c n (noted n (put_stacks (put_stack m t c.stacks) c))
+stack_does k c m n t h e q =
+    does (calls.matrix k) c refl n _ h
+    (subst (λ (x : MatrixMode × Answer MatrixStack). (s : List ℕ)
+    → Follows (calls.matrix k) c s x.1.number (noted x.1.number (put_stacks (put_stack x.0 x.1.after c.stacks) c)) s)
+    (λ i. (e i, (ap (λ x. stack.stack_answer k (stack_at x c.stacks)) e ∙ sym q) i)) (matrix_follows k c h))
 
-      stays : (m : Option MatrixMode) → ((new m).number ≡ 0 → ⊥) → noted (new m).number (put_mode (new m).after c) ≡ noted (new m).number c
-      stays (some m) q = absurd (q refl)
-      stays none q = refl
+-- pointer, client state and client unit calls
+pub arrays_do : (k : ArrayCall) (c : Context) (n : ℕ) (a : Arrays) → Sound c → answer n a ≡ array_step k c.buffers.array_buffer c.arrays
+    → Does (calls.object (calls.array k)) c n (noted n (put_arrays a c))
+arrays_do k c n a h e =
+    does (calls.object (calls.array k)) c refl n _ h
+    (subst (λ (x : Answer Arrays). (s : List ℕ) → Follows (calls.object (calls.array k)) c s x.number (noted x.number (put_arrays x.after c)) s) (sym e)
+    (λ s. record {
+      number = refl;
+      state = refl;
+      sound = record {
+        stacks = h.stacks;
+        buffers = h.buffers;
+        client_unit_in = client_stays k c.buffers.array_buffer c.arrays h.client_unit_in;
+        active_unit_in = h.active_unit_in;
+      };
+      stacks = refl;
+      slots = λ _. refl;
+      free = free_same;
+      refusal = λ q. ⊎_elim (λ z. absurd (q z)) (λ z. (inl (ap (λ x. noted new.number (put_arrays x c)) z.1), refl)) (array_keeps k c.buffers.array_buffer c.arrays);
+    }))
+  where
+    new : Answer Arrays
+    new = array_step k c.buffers.array_buffer c.arrays
 
-  -- push and pop, on the stack of the mode in force
-  pub stack_does : (k : stack.MatrixCall)
-      → ((done : Result Unit Refusal) (after : Context) → Call done after
-      → (answered done (stack_at c.mode after.stacks) ≡ stack.stack_answer k (stack_at c.mode c.stacks)) × (after ≡ put_stack_in c.mode (stack_at c.mode after.stacks) c))
-      → Does (calls.matrix k) c out.number out.context
-  stack_does k f =
-      settled_does (calls.matrix k) c refl _ out
-      (changed_part (λ x. stack_at c.mode x.stacks) (put_stack_in c.mode) (stack.stack_answer k (stack_at c.mode c.stacks)) g f) (matrix_follows k c)
+-- calls on the current values
+pub attributes_do : (k : AttributeCall) (c : Context) (n : ℕ) (a : Attributes) → Sound c → answer n a ≡ attribute_step k c.attributes
+    → Does (calls.attribute k) c n (noted n (put_attributes a c))
+attributes_do k c n a h e =
+    does (calls.attribute k) c refl n _ h
+    (subst (λ (x : Answer Attributes). (s : List ℕ) → Follows (calls.attribute k) c s x.number (noted x.number (put_attributes x.after c)) s) (sym e)
+    (λ s. record {
+      number = refl;
+      state = refl;
+      sound = record { stacks = h.stacks; buffers = h.buffers; client_unit_in = h.client_unit_in; active_unit_in = h.active_unit_in };
+      stacks = refl;
+      slots = λ _. refl;
+      free = free_same;
+      refusal = λ q. ⊎_elim (λ z. absurd (q z)) (λ z. (inl (ap (λ x. noted new.number (put_attributes x c)) z.1), refl)) (attribute_keeps k c.attributes);
+    }))
+  where
+    new : Answer Attributes
+    new = attribute_step k c.attributes
 
-  -- pointer, client state and client unit calls
-  pub arrays_do : (k : ArrayCall)
-      → ((done : Result Unit Refusal) (after : Context) → Call done after
-      → (answered done after.arrays ≡ array_step k c.buffers.array_buffer c.arrays) × (after ≡ put_arrays after.arrays c))
-      → Does (calls.object (calls.array k)) c out.number out.context
-  arrays_do k f =
-      settled_does (calls.object (calls.array k)) c refl _ out (changed_part (λ x. x.arrays) put_arrays new g f)
-      (λ h s. record {
-        number = refl;
-        state = refl;
-        sound = record {
-          stacks = h.stacks;
-          buffers = h.buffers;
-          client_unit_in = client_stays k c.buffers.array_buffer c.arrays h.client_unit_in;
-          active_unit_in = h.active_unit_in;
-        };
-        stacks = refl;
-        slots = λ _. refl;
-        free = free_same;
-        refusal = λ q. ⊎_elim (λ z. absurd (q z)) (λ z. (inl (ap (λ x. noted new.number (put_arrays x c)) z.1), refl)) (array_keeps k c.buffers.array_buffer c.arrays);
-      })
-    where
-      new : Answer Arrays
-      new = array_step k c.buffers.array_buffer c.arrays
-
-  -- calls on the current values
-  pub attributes_do : (k : AttributeCall)
-      → ((done : Result Unit Refusal) (after : Context) → Call done after
-      → (answered done after.attributes ≡ attribute_step k c.attributes) × (after ≡ put_attributes after.attributes c))
-      → Does (calls.attribute k) c out.number out.context
-  attributes_do k f =
-      settled_does (calls.attribute k) c refl _ out (changed_part (λ x. x.attributes) put_attributes new g f)
-      (λ h s. record {
-        number = refl;
-        state = refl;
-        sound = record { stacks = h.stacks; buffers = h.buffers; client_unit_in = h.client_unit_in; active_unit_in = h.active_unit_in };
-        stacks = refl;
-        slots = λ _. refl;
-        free = free_same;
-        refusal = λ q. ⊎_elim (λ z. absurd (q z)) (λ z. (inl (ap (λ x. noted new.number (put_attributes x c)) z.1), refl)) (attribute_keeps k c.attributes);
-      })
-    where
-      new : Answer Attributes
-      new = attribute_step k c.attributes
-
-  -- pipeline calls
-  pub pipeline_does : (k : PipelineCall)
-      → ((done : Result Unit Refusal) (after : Context) → Call done after
-      → (answered done after.pipeline ≡ pipeline_step k c.pipeline) × (after ≡ put_pipeline after.pipeline c))
-      → Does (calls.pipeline k) c out.number out.context
-  pipeline_does k f =
-      settled_does (calls.pipeline k) c refl _ out (changed_part (λ x. x.pipeline) put_pipeline new g f)
-      (λ h s. record {
-        number = refl;
-        state = refl;
-        sound = record { stacks = h.stacks; buffers = h.buffers; client_unit_in = h.client_unit_in; active_unit_in = active_stays k c.pipeline h.active_unit_in };
-        stacks = refl;
-        slots = λ _. refl;
-        free = free_same;
-        refusal = λ q. ⊎_elim (λ z. absurd (q z)) (λ z. (inl (ap (λ x. noted new.number (put_pipeline x c)) z.1), refl)) (refusal_keeps k c.pipeline);
-      })
-    where
-      new : Answer Pipeline
-      new = pipeline_step k c.pipeline
+-- pipeline calls
+pub pipeline_does : (k : PipelineCall) (c : Context) (n : ℕ) (p : Pipeline) → Sound c → answer n p ≡ pipeline_step k c.pipeline
+    → Does (calls.pipeline k) c n (noted n (put_pipeline p c))
+pipeline_does k c n p h e =
+    does (calls.pipeline k) c refl n _ h
+    (subst (λ (x : Answer Pipeline). (s : List ℕ) → Follows (calls.pipeline k) c s x.number (noted x.number (put_pipeline x.after c)) s) (sym e)
+    (λ s. record {
+      number = refl;
+      state = refl;
+      sound = record { stacks = h.stacks; buffers = h.buffers; client_unit_in = h.client_unit_in; active_unit_in = active_stays k c.pipeline h.active_unit_in };
+      stacks = refl;
+      slots = λ _. refl;
+      free = free_same;
+      refusal = λ q. ⊎_elim (λ z. absurd (q z)) (λ z. (inl (ap (λ x. noted new.number (put_pipeline x c)) z.1), refl)) (refusal_keeps k c.pipeline);
+    }))
+  where
+    new : Answer Pipeline
+    new = pipeline_step k c.pipeline
 
 -- ---- take_error
 

@@ -1,7 +1,7 @@
 -- For the code: what contracts of inner functions of crate context say. Nothing here is needed to read what an entry promises.
 use Rattle.std.specs.Prelude.{List, ◌≡◌, ℕ, ◌<◌, Float, Result, Ok, Err}
 use Rattle.refusal.specs.declared.Refusal.{Refusal}
-use Rattle.refusal.specs.Refusals.{refusal_number, number_in}
+use Rattle.refusal.specs.Refusals.{refusal_number}
 use Rattle.matrix.specs.Matrix.{product}
 use Rattle.stack.specs.Stack as stack
 use Rattle.stack.specs.declared.Matrix.{Matrix}
@@ -84,11 +84,6 @@ multiplied (Err e) c = Err e
 abbrev pub currents_reply : Result Currents Refusal → Context → Reply
 currents_reply (Ok m) c = reply 0 (noted 0 (put_stacks (put_currents m c.stacks) c))
 currents_reply (Err e) c = reply (refusal_number e) (noted (refusal_number e) c)
-
--- a sound context replies what a call makes of it, with its number noted, and an unsound one 1
-pub record Changed (Call : Result Unit Refusal → Context → Type 0) (c : Context) (out : Reply) : Type 0 where
-  pub sound : Sound c → (done : Result Unit Refusal) × (after : Context) × Call done after × (out ≡ reply (number_in done) (noted (number_in done) after))
-  pub unsound : (Sound c → ⊥) → out ≡ reply 1 c
 
 -- a sound context replies r, an unsound one 1
 pub record Settled (c : Context) (r : Reply) (out : Reply) : Type 0 where

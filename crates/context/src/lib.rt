@@ -1,7 +1,6 @@
 // The context: all state but the bytes of the buffers, whether it is sound, and what a call answers once it has changed a part.
 #![tactic(auto)]
 
-ghost use Rattle.std.specs.Fn.{FnOnceReturnsAtMut};
 ghost use Rattle.std.specs.Prelude.{◌≡◌, ◌<◌, Ok};
 ghost use Rattle.number.specs.Decides.{Decides};
 ghost use Rattle.refusal.specs.Refusals.{number_in};
@@ -14,7 +13,7 @@ ghost use Rattle.context.specs.State.{stack_at, Sound, Fresh};
 ghost use Rattle.context.specs.Rules.{matrix_modes, mode_code, slot_after};
 ghost use Rattle.context.specs.Contract.{noted, draw_reply};
 ghost use Rattle.context.specs.ContractCode.{SoundApart, current_at, put_current, currents_of, put_currents, currents_reply, loaded, multiplied};
-ghost use Rattle.context.specs.ContractCode.{reply, Changed, Settled, inputs_for};
+ghost use Rattle.context.specs.ContractCode.{put_stacks, reply, Settled, inputs_for};
 
 use arrays::{Arrays, Attributes, UNIT_COUNT};
 use buffers::{Buffers, STORE_BYTES};
@@ -252,11 +251,10 @@ impl Context {
         }
     }
 
-    // The reply of a call that has changed its part of the context, or was refused.
-    pub fn answer(mut self, done: Result<(), Refusal>) -> Reply
-        ensures { result ≡ reply (number_in done) (noted (number_in done) self) }
+    // The reply of a call that answers this number, with the context after it.
+    pub fn note(mut self, number: u32) -> Reply
+        ensures { result ≡ reply number (noted number self) }
     {
-        let number = refusal::number_of(done);
         self.error = slot_after(number, self.error);
         Reply {
             number,
@@ -264,16 +262,11 @@ impl Context {
         }
     }
 
-    // The reply of a call that changes its part of a sound context, or refuses to.
-    pub fn change<F: FnOnce(&mut Context) -> Result<(), Refusal>>(mut self, call: F) -> Reply
-        requires { F.IsAlwaysCallable call }
-        ensures { Changed (FnOnceReturnsAtMut F.FnOnce call self) self result }
+    // The reply of a call that has changed its part of the context, or was refused.
+    pub fn answer(self, done: Result<(), Refusal>) -> Reply
+        ensures { result ≡ reply (number_in done) (noted (number_in done) self) }
     {
-        if !self.is_sound() {
-            return self.refuse();
-        }
-        let done = call(&mut self);
-        self.answer(done)
+        self.note(refusal::number_of(done))
     }
 
     // The current matrices.
@@ -283,20 +276,15 @@ impl Context {
         self.stacks.currents()
     }
 
-    // The reply of a call that updates a matrix.
-    pub fn answer_currents(mut self, m: Result<Currents, Refusal>) -> Reply
-        ensures { Settled self (currents_reply m self) result }
+    // The reply of a call that updates a matrix, with the current matrices after it.
+    pub fn answer_currents(mut self, number: u32, m: Currents) -> Reply
+        ensures { Settled self (reply number (noted number (put_stacks (put_currents m self.stacks) self))) result }
     {
         if !self.is_sound() {
             return self.refuse();
         }
-        match m {
-            Ok(m) => {
-                self.stacks.set_currents(m);
-                self.answer(Ok(()))
-            }
-            Err(e) => self.answer(Err(e)),
-        }
+        self.stacks.set_currents(m);
+        self.note(number)
     }
 
     // The reply of a call that replaces the current matrix of the mode in force.
@@ -304,25 +292,20 @@ impl Context {
         ensures { Settled self (currents_reply (Ok (loaded entries self)) self) result }
     {
         let currents = self.currents().put(self.mode, entries);
-        self.answer_currents(Ok(currents))
+        self.answer_currents(0, currents)
     }
 
-    // The reply of a call that multiplies it on the right, or refuses to. It does by itself what `answer_currents` does: with a call of that in
-    // between a list of calls has no room on a stack of 64 KB.
-    pub fn multiply(mut self, m: Result<[f32; 16], Refusal>) -> Reply
+    // The reply of a call that multiplies it on the right, or refuses to. Number and matrices are made first: at a branch between context and reply
+    // the context would be copied.
+    pub fn multiply(self, m: Result<[f32; 16], Refusal>) -> Reply
         ensures { Settled self (currents_reply (multiplied m self) self) result }
     {
-        if !self.is_sound() {
-            return self.refuse();
-        }
-        match m {
-            Ok(m) => {
-                let currents = self.currents().multiply(self.mode, m);
-                self.stacks.set_currents(currents);
-                self.answer(Ok(()))
-            }
-            Err(e) => self.answer(Err(e)),
-        }
+        let currents = self.currents();
+        let (number, currents) = match m {
+            Ok(m) => (0, currents.multiply(self.mode, m)),
+            Err(e) => (u32::from(e), currents),
+        };
+        self.answer_currents(number, currents)
     }
 
     // What a draw's vertices are made from.
@@ -343,16 +326,22 @@ impl Context {
         }
     }
 
-    // The reply of a draw, with the number of its triangles.
-    pub fn answer_draw(self, d: Result<usize, Refusal>) -> DrawReply
-        ensures { let r = drawn_from d in result ≡ draw_reply r.number r.count (noted r.number self) }
+    // The reply of a draw that answers this number, with the number of its triangles.
+    pub fn note_draw(self, number: u32, count: usize) -> DrawReply
+        ensures { result ≡ draw_reply number count (noted number self) }
     {
-        let number = refusal::number_of(d);
         let error = slot_after(number, self.error);
         DrawReply {
             number,
-            count: d.unwrap_or(0),
+            count,
             context: Context { error, ..self },
         }
+    }
+
+    // The reply of a draw that was made or refused.
+    pub fn answer_draw(self, d: Result<usize, Refusal>) -> DrawReply
+        ensures { let r = drawn_from d in result ≡ draw_reply r.number r.count (noted r.number self) }
+    {
+        self.note_draw(refusal::number_of(d), d.unwrap_or(0))
     }
 }

@@ -1,5 +1,5 @@
 // The buffer calls. Each takes the context by value and gives it back with the call's number.
-// They do not go through `Context::change`: of a store that a closure borrows its contract says nothing, and the buffers would be tested twice.
+// They test all but the buffers themselves, which the methods of `Buffers` test.
 #![tactic(auto)]
 
 ghost use Rattle.std.specs.Prelude.{◌≡◌};

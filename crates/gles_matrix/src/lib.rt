@@ -1,20 +1,34 @@
 // The matrix calls: the mode in force, its current matrix and its saved ones. Each takes the context by value and gives it back with the call's number.
 #![tactic(auto)]
 
+ghost use Rattle.std.specs.Prelude.{◌≡◌};
+ghost use Rattle.number.specs.Tables.{lookup};
+ghost use Rattle.refusal.specs.Refusals.{answer, answered};
 ghost use Rattle.stack.specs.Stack.{MatrixCall, MatrixUpdate};
 ghost use Rattle.context.specs.Calls.{Call};
+ghost use Rattle.context.specs.Rules.{matrix_modes, known_number, mode_after};
 ghost use Rattle.context.specs.Contract.{Does};
 
 use context::{Context, MatrixMode, Reply};
 use matrix::Volume;
+use refusal::Refusal;
 
-pub fn set_matrix_mode(c: Context, mode: u32) -> Reply
+// The mode that a number names, in the place of another.
+fn put_mode(mode: &mut MatrixMode, code: u32) -> Result<(), Refusal>
+    ensures { answered result mode.new ≡ answer (known_number (lookup matrix_modes code)) (mode_after code mode.old) }
+{
+    *mode = MatrixMode::try_from(code)?;
+    Ok(())
+}
+
+pub fn set_matrix_mode(mut c: Context, mode: u32) -> Reply
     ensures { Does (Call.mode mode) c result.number result.context }
 {
-    c.change(|c| {
-        c.mode = MatrixMode::try_from(mode)?;
-        Ok(())
-    })
+    if !c.is_sound() {
+        return c.refuse();
+    }
+    let done = put_mode(&mut c.mode, mode);
+    c.answer(done)
 }
 
 pub fn load_identity(c: Context) -> Reply
@@ -36,24 +50,54 @@ pub fn mult_matrix(c: Context, m: [f32; 16]) -> Reply
 }
 
 // Push and pop lend the stack of the mode in force.
-pub fn push_matrix(c: Context) -> Reply
+pub fn push_matrix(mut c: Context) -> Reply
     ensures { Does (Call.matrix MatrixCall.push) c result.number result.context }
 {
-    c.change(|c| match c.mode {
-        MatrixMode::Modelview => lent_stack::push(&mut c.stacks.modelview),
-        MatrixMode::Projection => lent_stack::push(&mut c.stacks.projection),
-        MatrixMode::Texture => lent_stack::push(&mut c.stacks.texture),
-    })
+    if !c.is_sound() {
+        return c.refuse();
+    }
+    match c.mode {
+        MatrixMode::Modelview => {
+            let a = lent_stack::pushed(c.stacks.modelview);
+            c.stacks.modelview = a.stack;
+            c.note(a.number)
+        }
+        MatrixMode::Projection => {
+            let a = lent_stack::pushed(c.stacks.projection);
+            c.stacks.projection = a.stack;
+            c.note(a.number)
+        }
+        MatrixMode::Texture => {
+            let a = lent_stack::pushed(c.stacks.texture);
+            c.stacks.texture = a.stack;
+            c.note(a.number)
+        }
+    }
 }
 
-pub fn pop_matrix(c: Context) -> Reply
+pub fn pop_matrix(mut c: Context) -> Reply
     ensures { Does (Call.matrix MatrixCall.pop) c result.number result.context }
 {
-    c.change(|c| match c.mode {
-        MatrixMode::Modelview => lent_stack::pop(&mut c.stacks.modelview),
-        MatrixMode::Projection => lent_stack::pop(&mut c.stacks.projection),
-        MatrixMode::Texture => lent_stack::pop(&mut c.stacks.texture),
-    })
+    if !c.is_sound() {
+        return c.refuse();
+    }
+    match c.mode {
+        MatrixMode::Modelview => {
+            let a = lent_stack::popped(c.stacks.modelview);
+            c.stacks.modelview = a.stack;
+            c.note(a.number)
+        }
+        MatrixMode::Projection => {
+            let a = lent_stack::popped(c.stacks.projection);
+            c.stacks.projection = a.stack;
+            c.note(a.number)
+        }
+        MatrixMode::Texture => {
+            let a = lent_stack::popped(c.stacks.texture);
+            c.stacks.texture = a.stack;
+            c.note(a.number)
+        }
+    }
 }
 
 pub fn translate(c: Context, x: f32, y: f32, z: f32) -> Reply

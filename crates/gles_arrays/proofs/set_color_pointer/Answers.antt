@@ -1,9 +1,11 @@
 -- `gles_arrays::set_color_pointer` meets its contract, from the call on the arrays.
-use borrow.Author.Rules.{rules}
 use Rattle.arrays.specs.Arrays.{accepted_arrays, array_step}
-use Rattle.context.proofs.Entries.{arrays_do}
+use Rattle.context.proofs.Entries.{unsound, arrays_do}
 use Rattle.gles_arrays.proofs.set_color_pointer.Goals as goal
+
+pub returns-then-not-is_sound : goal.returns-then-not-is_sound
+returns-then-not-is_sound c = rw c.refuse.ensures (λ s. unsound _ _ s (c.is_sound.ensures.no c.if-not-is_sound.true))
 
 pub returns : goal.returns
 unfolding array_step accepted_arrays
-returns c = arrays_do c.change.ensures _ (λ done after p. search rules)
+returns c = rw c.answer.ensures (arrays_do _ _ _ _ (c.is_sound.ensures.yes c.if-not-is_sound.false) c.set_pointer-done.ensures)

@@ -1,7 +1,9 @@
 -- `gles_matrix::set_matrix_mode` meets its contract, from the table's answer.
-use borrow.Author.Rules.{rules}
-use Rattle.context.proofs.Entries.{mode_does}
+use Rattle.context.proofs.Entries.{unsound, mode_does}
 use Rattle.gles_matrix.proofs.set_matrix_mode.Goals as goal
 
+pub returns-then-not-is_sound : goal.returns-then-not-is_sound
+returns-then-not-is_sound c = rw c.refuse.ensures (λ s. unsound _ _ s (c.is_sound.ensures.no c.if-not-is_sound.true))
+
 pub returns : goal.returns
-returns c = mode_does c.change.ensures _ (λ done after p. search rules)
+returns c = rw c.answer.ensures (mode_does _ _ _ _ (c.is_sound.ensures.yes c.if-not-is_sound.false) c.put_mode-done.ensures)
