@@ -227,11 +227,12 @@ impl Context {
             && self.stacks.is_sound()
     }
 
-    // Whether the context is sound.
+    // Whether the context is sound. The buffers are copied for the question: lent in place, the compiler would keep the whole context in memory.
     pub fn is_sound(&self) -> bool
         ensures { Decides (Sound self.now) result }
     {
-        self.is_sound_apart() && self.buffers.is_sound()
+        let buffers = self.buffers;
+        self.is_sound_apart() && buffers.is_sound()
     }
 
     // Whether the context is sound and the store has its length.
@@ -277,6 +278,7 @@ impl Context {
     }
 
     // The reply of a call that updates a matrix, with the current matrices after it.
+    #[inline(always)]
     pub fn answer_currents(mut self, number: u32, m: Currents) -> Reply
         ensures { Settled self (reply number (noted number (put_stacks (put_currents m self.stacks) self))) result }
     {
@@ -288,6 +290,7 @@ impl Context {
     }
 
     // The reply of a call that replaces the current matrix of the mode in force.
+    #[inline(always)]
     pub fn load(self, entries: [f32; 16]) -> Reply
         ensures { Settled self (currents_reply (Ok (loaded entries self)) self) result }
     {
@@ -297,6 +300,7 @@ impl Context {
 
     // The reply of a call that multiplies it on the right, or refuses to. Number and matrices are made first: at a branch between context and reply
     // the context would be copied.
+    #[inline(always)]
     pub fn multiply(self, m: Result<[f32; 16], Refusal>) -> Reply
         ensures { Settled self (currents_reply (multiplied m self) self) result }
     {

@@ -1,5 +1,6 @@
 // The buffer calls. Each takes the context by value and gives it back with the call's number.
-// They test all but the buffers themselves, which the methods of `Buffers` test.
+// They test all but the buffers themselves, which the methods of `Buffers` test. A copy of the buffers is lent: lent in place, the compiler would keep
+// the whole context in memory.
 #![tactic(auto)]
 
 ghost use Rattle.std.specs.Prelude.{◌≡◌};
@@ -22,7 +23,9 @@ pub fn gen_buffers(mut c: Context, n: usize) -> GenReply
             context,
         };
     }
-    let made = c.buffers.generate(n);
+    let mut buffers = c.buffers;
+    let made = buffers.generate(n);
+    c.buffers = buffers;
     let Reply { number, context } = c.answer(made.and(Ok(())));
     GenReply {
         number,
@@ -37,7 +40,9 @@ pub fn bind_buffer(mut c: Context, target: u32, name: u32) -> Reply
     if !c.is_sound_apart() {
         return c.refuse();
     }
-    let done = c.buffers.bind(target, name);
+    let mut buffers = c.buffers;
+    let done = buffers.bind(target, name);
+    c.buffers = buffers;
     c.answer(done)
 }
 
@@ -47,7 +52,9 @@ pub fn delete_buffers(mut c: Context, names: &[u32]) -> Reply
     if !c.is_sound_apart() {
         return c.refuse();
     }
-    let done = c.buffers.delete(names);
+    let mut buffers = c.buffers;
+    let done = buffers.delete(names);
+    c.buffers = buffers;
     c.answer(done)
 }
 
@@ -65,7 +72,9 @@ pub fn buffer_data(
     if !c.is_sound_apart() {
         return c.refuse();
     }
-    let done = c.buffers.set_data(store, target, size, data);
+    let mut buffers = c.buffers;
+    let done = buffers.set_data(store, target, size, data);
+    c.buffers = buffers;
     c.answer(done)
 }
 
@@ -82,6 +91,8 @@ pub fn buffer_sub_data(
     if !c.is_sound_apart() {
         return c.refuse();
     }
-    let done = c.buffers.set_sub_data(store, target, offset, data);
+    let mut buffers = c.buffers;
+    let done = buffers.set_sub_data(store, target, offset, data);
+    c.buffers = buffers;
     c.answer(done)
 }
