@@ -2,7 +2,7 @@
 #![tactic(auto)]
 
 ghost use Rattle.std.specs.Prelude.{◌≡◌, length};
-ghost use Rattle.refusal.specs.Refusals.{answered};
+ghost use Rattle.refusal.specs.Refusals.{answer};
 ghost use Rattle.vertex.specs.Index.{range_count};
 ghost use Rattle.history.specs.Demand3.{DrawDid};
 ghost use Rattle.list_words.specs.Words.{word_at};
@@ -15,8 +15,8 @@ ghost use Rattle.trace_driver.specs.Draws.{room_of, trace_draw};
 
 use buffers::{Buffers, STORE_BYTES};
 use context::{Context, DrawReply};
+use lent_stack::StackAnswer;
 use list_records::{CallReply, Record};
-use refusal::Refusal;
 use stack::{Matrix, MatrixStack, SAVED_LIMIT};
 use trace_format::{MAX_ENTRIES, STORE_AREA};
 use vertex::IndexType;
@@ -143,18 +143,21 @@ pub fn stack_of(w: &[u32]) -> MatrixStack
     }
 }
 
-// Does to one of those stacks what a record says, and answers as push or pop.
-pub fn stack_answer(s: &mut MatrixStack, record: Record<'_>) -> Result<(), Refusal>
-    ensures { answered result s.new ≡ stack_record record.entry.code record.entry.words.now s.old }
+// What a record on one of those stacks answers: the number of push or pop, and the stack after it.
+pub fn stack_answer(s: MatrixStack, record: Record<'_>) -> StackAnswer
+    ensures { answer result.number result.stack ≡ stack_record record.entry.code record.entry.words.now s }
 {
     match record.code {
-        0x70 => {
-            *s = stack_of(record.words);
-            Ok(())
-        }
-        0x71 => lent_stack::push(s),
-        0x72 => lent_stack::pop(s),
-        _ => Ok(()),
+        0x70 => StackAnswer {
+            number: 0,
+            stack: stack_of(record.words),
+        },
+        0x71 => lent_stack::pushed(s),
+        0x72 => lent_stack::popped(s),
+        _ => StackAnswer {
+            number: 0,
+            stack: s,
+        },
     }
 }
 

@@ -3,13 +3,11 @@
 
 ghost use Rattle.std.specs.Prelude.{◌≡◌};
 ghost use Rattle.list_words.specs.Words.{word_at};
-ghost use Rattle.refusal.specs.Refusals.{answered};
 ghost use Rattle.trace_driver.specs.Stacks.{is_stack_record, stack_record, outer_stacks_after};
 ghost use Rattle.trace_session.specs.Records.{CallDone, DrawDone, Inspected, Done};
 
 use context::Context;
 use list_records::Record;
-use refusal::{Refusal, number_of};
 use stack::MatrixStack;
 use trace_driver::Borrowed;
 use view::GuestView;
@@ -65,8 +63,9 @@ fn say_stack_answer(code: u32, number: u32, s: MatrixStack) {
 fn use_stack(s: &mut MatrixStack, record: Record<'_>)
     ensures { s.new ≡ (stack_record record.entry.code record.entry.words.now s.old).after }
 {
-    let done = trace_driver::stack_answer(s, record);
-    say_stack_answer(record.code, number_of(done), *s);
+    let r = trace_driver::stack_answer(*s, record);
+    say_stack_answer(record.code, r.number, r.stack);
+    *s = r.stack;
 }
 
 fn is_stack(code: u32) -> bool

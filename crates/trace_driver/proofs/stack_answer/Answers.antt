@@ -9,12 +9,12 @@ returns-in-112 c = rw (c.in-112.is, c.stack_of.ensures)
 
 pub returns-in-113 : goal.returns-in-113
 unfolding stack_record
-returns-in-113 c = rw c.in-113.is c.push.ensures
+returns-in-113 c = rw c.in-113.is c.pushed.ensures
 
 pub returns-in-114 : goal.returns-in-114
 unfolding stack_record
-returns-in-114 c = rw c.in-114.is c.pop.ensures
+returns-in-114 c = rw c.in-114.is c.popped.ensures
 
 pub returns-in_default : goal.returns-in_default
 unfolding stack_record
-returns-in_default c = last_row (record_rows c.args.«record».words.now c.args.s.now) _ _ c.in_default.in_default-own.rest
+returns-in_default c = last_row (record_rows c.args.«record».words.now c.args.s) _ _ c.in_default.in_default-own.rest
