@@ -158,12 +158,22 @@ impl<'a> Memory<'a> {
     }
 
     // The bytes of a range: in the named buffer, or with buffer 0 in guest memory.
+    #[tactic(auto, unfolding(crate::specs::Fetch::part_of))]
     pub fn part(&self, buffer: u32, address: u32, len: usize) -> Result<&'a [u8], Missing>
         ensures { part_in result ≡ part_of (contents_of self.now.buffers.slots self.now.store.now) self.now.base self.now.guest.now buffer address len }
     {
         let at = self.find_place(buffer, address, len)?;
-        let source = if buffer == 0 { self.guest } else { self.store };
-        Ok(&source[at..][..len])
+        if buffer == 0 {
+            return Ok(read(self.base, self.guest, address, len));
+        }
+        Ok(&self.store[at..][..len])
+    }
+
+    // The same; none where it is not there. No Option: it never fails, and `part` tells why bytes are missing.
+    pub fn bytes(&self, buffer: u32, address: u32, len: usize) -> &'a [u8]
+        ensures { result.now ≡ bytes_in (part_of (contents_of self.now.buffers.slots self.now.store.now) self.now.base self.now.guest.now buffer address len) }
+    {
+        self.part(buffer, address, len).unwrap_or(&[])
     }
 
     // The extent of a buffer, or with buffer 0 of the guest bytes; none where the buffer is absent.
