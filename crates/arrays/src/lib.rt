@@ -2,8 +2,9 @@
 #![tactic(auto)]
 
 ghost use Rattle.std.specs.Prelude.{◌≡◌, ℕ, get_or};
-ghost use Rattle.refusal.specs.Refusals.{answer, answered};
-ghost use Rattle.refusal.specs.Enumerants.{Decodes};
+ghost use Rattle.refusal.specs.Refusals.{answer};
+ghost use Rattle.refusal.specs.RefusalsCode.{answered};
+ghost use Rattle.refusal.specs.EnumerantsCode.{Decodes};
 ghost use Rattle.fetch.specs.Fetch.{fresh_array};
 ghost use Rattle.arrays.specs.Arrays.{fresh_arrays, array_of, put_array, pointer_set, enabled_set, array_kinds, arrays_answered, array_step};
 ghost use Rattle.arrays.specs.Arrays.{client_state, client_unit};

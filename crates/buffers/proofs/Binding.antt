@@ -6,7 +6,7 @@ use mathlib.Core.Path.{◌≡◌, refl, sym, ap, ◌∙◌}
 use native.Mathlib.Omega.{arith}
 use borrow.Author.Tests.{le-leb, lt-leb}
 use Rattle.std.specs.Prelude.{Ok, Err}
-use Rattle.refusal.specs.Enumerants.{Decodes}
+use Rattle.refusal.specs.EnumerantsCode.{Decodes}
 use Rattle.refusal.specs.declared.UnknownEnum.{UnknownEnum}
 use Rattle.buffers.specs.declared.Target.{Target}
 use Rattle.buffers.proofs.Targets.{tests_of}

@@ -6,7 +6,7 @@ use mathlib.Core.Option.{some, none}
 use mathlib.Core.Path.{◌≡◌, refl}
 use lib.Dec.{eqb}
 use Rattle.std.specs.Prelude.{Result, Ok, Err}
-use Rattle.refusal.specs.Enumerants.{found, Decodes}
+use Rattle.refusal.specs.EnumerantsCode.{found, Decodes}
 use Rattle.refusal.specs.declared.UnknownEnum.{UnknownEnum}
 use Rattle.buffers.specs.Objects.{Objects, objects, is_target, bound_at}
 use Rattle.buffers.specs.ObjectsCode.{targets, bound_to}

@@ -16,7 +16,7 @@ use Rattle.buffers.specs.Objects.{Objects, objects, AnswersIn, FreeSlots, Bindab
 use Rattle.buffers.specs.Objects.{contents_of, with_bytes, padded}
 use Rattle.buffers.specs.Objects.{bound_at, data_answer, sub_data_answer, bytes_of}
 use Rattle.std.specs.Prelude.{Option, Some, None, Ok, Err}
-use Rattle.refusal.specs.Enumerants.{Decodes}
+use Rattle.refusal.specs.EnumerantsCode.{Decodes}
 use Rattle.refusal.specs.declared.UnknownEnum.{UnknownEnum}
 use Rattle.buffers.specs.declared.Target.{Target}
 use Rattle.buffers.specs.ObjectsCode.{targets, bound_to, FindsSlot, FindsBound}

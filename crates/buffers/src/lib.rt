@@ -4,7 +4,7 @@ ghost use Rattle.std.specs.Prelude.{◌≡◌, List, cond, ℕ, ◌+◌, ◌<◌
 ghost use Rattle.number.specs.Decides.{Decides};
 ghost use Rattle.number.specs.Bytes.{overwrite};
 ghost use Rattle.refusal.specs.Refusals.{number_in};
-ghost use Rattle.refusal.specs.Enumerants.{Decodes};
+ghost use Rattle.refusal.specs.EnumerantsCode.{Decodes};
 ghost use Rattle.refusal.specs.declared.Refusal.{Refusal};
 ghost use Rattle.buffers.specs.Live.{FindsNext};
 ghost use Rattle.buffers.specs.Objects.{name_at, slot_count, last_name, slot_of, len_at, Bindable, Sound, SoundIs, IsFresh, Answers, bind_answer, AnswersIn};

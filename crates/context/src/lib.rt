@@ -4,11 +4,11 @@
 ghost use Rattle.std.specs.Prelude.{◌≡◌, ◌<◌, Ok};
 ghost use Rattle.number.specs.Decides.{Decides};
 ghost use Rattle.refusal.specs.Refusals.{number_in};
-ghost use Rattle.refusal.specs.Enumerants.{Decodes};
+ghost use Rattle.refusal.specs.EnumerantsCode.{Decodes};
 ghost use Rattle.matrix.specs.Matrix.{product};
 ghost use Rattle.stack.specs.Stack as stack;
 ghost use Rattle.buffers.specs.Objects.{store_bytes};
-ghost use Rattle.draw.specs.Draw.{drawn_from};
+ghost use Rattle.draw.specs.DrawCode.{drawn_from};
 ghost use Rattle.context.specs.State.{stack_at, Sound, Fresh};
 ghost use Rattle.context.specs.Rules.{matrix_modes, mode_code, slot_after};
 ghost use Rattle.context.specs.Contract.{noted, draw_reply};

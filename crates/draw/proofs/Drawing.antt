@@ -14,7 +14,8 @@ use Rattle.vertex.specs.Questions.{list_number, validation}
 use Rattle.vertex.specs.declared.Vertex.{Vertex}
 use Rattle.corners.specs.Places.{triangle_count, primitive_of}
 use Rattle.assembly.specs.Triangles.{Triangle, vertex_at, triangles_to, words_of}
-use Rattle.draw.specs.Draw.{triangles_of, draw_answer, draw_in, Drawn, drawn_from, Draws}
+use Rattle.draw.specs.Draw.{triangles_of, draw_answer, draw_in, Drawn, Draws}
+use Rattle.draw.specs.DrawCode.{drawn_from}
 use Rattle.refusal.specs.Refusals.{refusal_number}
 use Rattle.refusal.specs.declared.Refusal.{Refusal}
 use Rattle.std.specs.Prelude.{Result, Ok, Err}

@@ -1,12 +1,10 @@
 -- The draw rules (01: "Draws", "Questions at the door"): number, count, triangles and output.
-use Rattle.std.specs.Prelude.{not, cond, List, [], ◌++◌, ◌≡◌, ℕ, ◌*◌, ltb, eqb, length, drop, Float, Result, Ok, Err}
+use Rattle.std.specs.Prelude.{not, cond, List, [], ◌++◌, ◌≡◌, ℕ, ◌*◌, ltb, eqb, length, drop, Float}
 use Rattle.corners.specs.Places.{primitive_of, triangle_count}
 use Rattle.vertex.specs.Scene.{DrawState, Source, DrawCall, Scene, scene_of}
 use Rattle.vertex.specs.Index.{indices_from}
 use Rattle.vertex.specs.Questions.{validation}
 use Rattle.assembly.specs.Triangles.{Triangle, vertex_at, triangles_to, words_of}
-use Rattle.refusal.specs.declared.Refusal.{Refusal}
-use Rattle.refusal.specs.Refusals.{refusal_number}
 
 -- the triangles of a list of indices
 abbrev pub triangles_of : Scene → ℕ → List ℕ → List Triangle
@@ -42,11 +40,6 @@ output_of ts out = words_of ts ++ drop (51 * length ts) out
 pub record Drawn : Type 0 where
   pub number : ℕ
   pub count : ℕ
-
--- the same of the code's answer: a refused draw writes none
-abbrev pub drawn_from : Result ℕ Refusal → Drawn
-drawn_from (Ok n) = record { number = 0; count = n }
-drawn_from (Err r) = record { number = refusal_number r; count = 0 }
 
 -- a draw did as the rules say: number and count of the answer, and the output before and after
 pub record Draws (d : Drawing) (r : Drawn) (out out' : List Float) : Type 0 where

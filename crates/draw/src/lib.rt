@@ -7,7 +7,8 @@ ghost use Rattle.vertex.specs.Scene.{Source};
 ghost use Rattle.vertex.specs.SceneCode.{scene_in, index_list};
 ghost use Rattle.vertex.specs.Questions.{list_number};
 ghost use Rattle.assembly.specs.Triangles.{vertex_at, triangles_to, words_of};
-ghost use Rattle.draw.specs.Draw.{triangles_of, draw_answer, draw_in, drawn_from, Draws};
+ghost use Rattle.draw.specs.Draw.{triangles_of, draw_answer, draw_in, Draws};
+ghost use Rattle.draw.specs.DrawCode.{drawn_from};
 
 use corners::Primitive;
 use refusal::Refusal;

@@ -3,7 +3,8 @@
 
 ghost use Rattle.std.specs.Prelude.{◌≡◌};
 ghost use Rattle.number.specs.Tables.{lookup};
-ghost use Rattle.refusal.specs.Refusals.{answer, answered};
+ghost use Rattle.refusal.specs.Refusals.{answer};
+ghost use Rattle.refusal.specs.RefusalsCode.{answered};
 ghost use Rattle.stack.specs.Stack.{MatrixCall, MatrixUpdate};
 ghost use Rattle.context.specs.Calls.{Call};
 ghost use Rattle.context.specs.Rules.{matrix_modes, known_number, mode_after};

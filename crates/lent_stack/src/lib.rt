@@ -3,7 +3,8 @@
 #![tactic(auto)]
 
 ghost use Rattle.std.specs.Prelude.{◌≡◌};
-ghost use Rattle.refusal.specs.Refusals.{answer, answer_or};
+ghost use Rattle.refusal.specs.Refusals.{answer};
+ghost use Rattle.refusal.specs.RefusalsCode.{answer_or};
 ghost use Rattle.stack.specs.Stack.{MatrixCall, stack_answer};
 
 use refusal::{Refusal, number_of};

@@ -2,8 +2,9 @@
 #![tactic(auto)]
 
 ghost use Rattle.std.specs.Prelude.{◌≡◌};
-ghost use Rattle.refusal.specs.Refusals.{answer, answered};
-ghost use Rattle.refusal.specs.Enumerants.{found, Decodes};
+ghost use Rattle.refusal.specs.Refusals.{answer};
+ghost use Rattle.refusal.specs.RefusalsCode.{answered};
+ghost use Rattle.refusal.specs.EnumerantsCode.{found, Decodes};
 ghost use Rattle.pipeline.specs.Enums.{compare_funcs, blend_factors, cull_modes, front_faces, fog_modes, tex_env_modes, capability_of, fog_parameters};
 ghost use Rattle.pipeline.specs.Enums.{compare_code, blend_code, cull_code, face_code, fog_code, env_code};
 ghost use Rattle.pipeline.specs.Pipeline.{fresh_unit, fresh_pipeline, pipeline_answered, active_unit, put_unit};

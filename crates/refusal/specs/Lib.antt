@@ -1,2 +1,3 @@
 pub mod Refusals
-pub mod Enumerants
+pub mod RefusalsCode
+pub mod EnumerantsCode

@@ -33,12 +33,3 @@ pub record Answer (A : Type 0) : Type 0 where
 
 abbrev pub answer : {A : Type 0} → ℕ → A → Answer A
 answer n a = record { number = n; after = a }
-
--- the same of the code's answer, and of the part that a call was lent
-abbrev pub answered : {A : Type 0} → Result Unit Refusal → A → Answer A
-answered r a = answer (number_in r) a
-
--- the same where the answer has the new value, and a refusal leaves the old one
-abbrev pub answer_or : {A : Type 0} → A → Result A Refusal → Answer A
-answer_or a (Ok b) = answer 0 b
-answer_or a (Err r) = answer (refusal_number r) a

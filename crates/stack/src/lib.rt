@@ -3,7 +3,7 @@
 
 ghost use Rattle.std.specs.Prelude.{◌≡◌};
 ghost use Rattle.number.specs.Decides.{Decides};
-ghost use Rattle.refusal.specs.Refusals.{answer_or};
+ghost use Rattle.refusal.specs.RefusalsCode.{answer_or};
 ghost use Rattle.stack.specs.Stack.{Sound, MatrixCall, stack_answer, fresh_stack};
 
 use refusal::Refusal;

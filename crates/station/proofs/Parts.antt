@@ -15,7 +15,7 @@ use Rattle.std.specs.List.{AllWithin, HoldsAt}
 use Rattle.number.specs.Decides.{Decides}
 use Rattle.number.specs.Tables.{Row, lookup, row_or}
 use Rattle.refusal.specs.declared.UnknownEnum.{UnknownEnum}
-use Rattle.refusal.specs.Enumerants.{Decodes}
+use Rattle.refusal.specs.EnumerantsCode.{Decodes}
 use Rattle.context.proofs.Entries.{part_unsound}
 use Rattle.station.specs.declared.KeptUnit.{KeptUnit}
 use Rattle.station.specs.declared.KeptSettings.{KeptSettings}

@@ -1,6 +1,6 @@
 -- The bytes of an index of a type, from the type that a code decodes to. Assumes nothing.
 use Rattle.std.proofs.Common.{ℕ, ◌≡◌, Ok, Err, sym, ap, ◌∙◌, Result, refl}
-use Rattle.refusal.specs.Enumerants.{Decodes, found}
+use Rattle.refusal.specs.EnumerantsCode.{Decodes, found}
 use Rattle.refusal.specs.declared.UnknownEnum.{UnknownEnum}
 use Rattle.vertex.specs.Index.{index_width, index_types, type_width}
 use Rattle.vertex.specs.declared.IndexType.{IndexType}

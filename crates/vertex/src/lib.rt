@@ -2,7 +2,7 @@
 #![tactic(auto)]
 
 ghost use Rattle.std.specs.Prelude.{◌≡◌, Err, IfOk, ◌+◌, ◌-◌, ◌/◌, min, length, get_or};
-ghost use Rattle.refusal.specs.Enumerants.{Decodes};
+ghost use Rattle.refusal.specs.EnumerantsCode.{Decodes};
 ghost use Rattle.refusal.specs.Refusals.{number_in, refusal_number};
 ghost use Rattle.vertex.specs.Index.{numbers, index_types, type_width, indices_from};
 ghost use Rattle.vertex.specs.Scene.{elements};

@@ -1,7 +1,7 @@
 use Rattle.std.proofs.Common.{rules, arith, ◌≡◌, refl}
 use Rattle.refusal.specs.Refusals.{number_in}
 use mathlib.Core.Path.{subst}
-use Rattle.refusal.specs.Enumerants.{Decodes}
+use Rattle.refusal.specs.EnumerantsCode.{Decodes}
 use Rattle.buffers.specs.ObjectsCode.{targets, FindsBound}
 use Rattle.buffers.proofs.Uploads.{sub_no_target, sub_unbound, slot_small, sub_short, sub_done}
 use Rattle.buffers.proofs.Buffers.set_sub_data.Goals as goal

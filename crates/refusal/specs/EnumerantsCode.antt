@@ -1,4 +1,4 @@
--- Enumerants of OpenGL ES that the code keeps as choices.
+-- For the code: enumerants of OpenGL ES that it keeps as choices.
 use Rattle.std.specs.Prelude.{ℕ, List, ◌≡◌, Result, Ok, Err}
 use Rattle.std.proofs.Math.Option.{Option, some, none}
 use Rattle.number.specs.Tables.{Row, lookup}
