@@ -11,7 +11,7 @@ ghost use Rattle.buffers.specs.Objects.{store_bytes};
 ghost use Rattle.draw.specs.DrawCode.{drawn_from};
 ghost use Rattle.context.specs.State.{stack_at, Sound, Fresh};
 ghost use Rattle.context.specs.Rules.{matrix_modes, mode_code, slot_after};
-ghost use Rattle.context.specs.Contract.{noted, draw_reply};
+ghost use Rattle.context.specs.Contract.{put_buffers, noted, draw_reply};
 ghost use Rattle.context.specs.ContractCode.{SoundApart, current_at, put_current, currents_of, put_currents, currents_reply, loaded, multiplied};
 ghost use Rattle.context.specs.ContractCode.{put_stacks, reply, Settled, inputs_for};
 
@@ -268,6 +268,17 @@ impl Context {
         ensures { result ≡ reply (number_in done) (noted (number_in done) self) }
     {
         self.note(refusal::number_of(done))
+    }
+
+    // The reply of a buffer call that answers this number, with the buffers after it.
+    #[inline(always)]
+    pub fn put_buffers(self, number: u32, buffers: Buffers) -> Reply
+        ensures { result ≡ reply number (noted number (put_buffers buffers self)) }
+    {
+        let mut context = self;
+        context.buffers = buffers;
+        context.error = slot_after(number, self.error);
+        Reply { number, context }
     }
 
     // The current matrices.

@@ -11,7 +11,7 @@ ghost use Rattle.context.specs.Contract.{Did, Does};
 use context::{Context, GenReply, Reply};
 
 // The first of n names, one after the other; 0 where none is made.
-pub fn gen_buffers(mut c: Context, n: usize) -> GenReply
+pub fn gen_buffers(c: Context, n: usize) -> GenReply
     ensures does { Does (Call.object (ObjectCall.buffer (BufferCall.gen_buffers n))) c result.number result.context }
     ensures first { result.first ≡ gen_first result.number c.buffers.next n }
 {
@@ -25,8 +25,7 @@ pub fn gen_buffers(mut c: Context, n: usize) -> GenReply
     }
     let mut buffers = c.buffers;
     let made = buffers.generate(n);
-    c.buffers = buffers;
-    let Reply { number, context } = c.answer(made.and(Ok(())));
+    let Reply { number, context } = c.put_buffers(refusal::number_of(made), buffers);
     GenReply {
         number,
         first: made.unwrap_or(0),
@@ -34,7 +33,7 @@ pub fn gen_buffers(mut c: Context, n: usize) -> GenReply
     }
 }
 
-pub fn bind_buffer(mut c: Context, target: u32, name: u32) -> Reply
+pub fn bind_buffer(c: Context, target: u32, name: u32) -> Reply
     ensures { Does (Call.object (ObjectCall.buffer (BufferCall.bind_buffer target name))) c result.number result.context }
 {
     if !c.is_sound_apart() {
@@ -42,11 +41,10 @@ pub fn bind_buffer(mut c: Context, target: u32, name: u32) -> Reply
     }
     let mut buffers = c.buffers;
     let done = buffers.bind(target, name);
-    c.buffers = buffers;
-    c.answer(done)
+    c.put_buffers(refusal::number_of(done), buffers)
 }
 
-pub fn delete_buffers(mut c: Context, names: &[u32]) -> Reply
+pub fn delete_buffers(c: Context, names: &[u32]) -> Reply
     ensures { Does (Call.object (ObjectCall.buffer (BufferCall.delete_buffers names.now))) c result.number result.context }
 {
     if !c.is_sound_apart() {
@@ -54,12 +52,11 @@ pub fn delete_buffers(mut c: Context, names: &[u32]) -> Reply
     }
     let mut buffers = c.buffers;
     let done = buffers.delete(names);
-    c.buffers = buffers;
-    c.answer(done)
+    c.put_buffers(refusal::number_of(done), buffers)
 }
 
 pub fn buffer_data(
-    mut c: Context,
+    c: Context,
     store: &mut [u8],
     target: u32,
     size: usize,
@@ -74,17 +71,10 @@ pub fn buffer_data(
     }
     let mut buffers = c.buffers;
     let done = buffers.set_data(store, target, size, data);
-    c.buffers = buffers;
-    c.answer(done)
+    c.put_buffers(refusal::number_of(done), buffers)
 }
 
-pub fn buffer_sub_data(
-    mut c: Context,
-    store: &mut [u8],
-    target: u32,
-    offset: u32,
-    data: &[u8],
-) -> Reply
+pub fn buffer_sub_data(c: Context, store: &mut [u8], target: u32, offset: u32, data: &[u8]) -> Reply
     ensures { Did (Call.object (ObjectCall.buffer (BufferCall.buffer_sub_data target offset «data».now)))
         c store.old result.number result.context store.new }
 {
@@ -93,6 +83,5 @@ pub fn buffer_sub_data(
     }
     let mut buffers = c.buffers;
     let done = buffers.set_sub_data(store, target, offset, data);
-    c.buffers = buffers;
-    c.answer(done)
+    c.put_buffers(refusal::number_of(done), buffers)
 }

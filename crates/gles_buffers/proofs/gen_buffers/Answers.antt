@@ -1,17 +1,12 @@
 -- `gles_buffers::gen_buffers` meets its contract, from the call on the buffers.
-use mathlib.Core.Path.{◌≡◌, refl, ap, ◌∙◌}
+use mathlib.Core.Path.{◌≡◌, refl, ◌∙◌}
 use Prim.Native.Nat.{ℕ}
 use Rattle.std.specs.Prelude.{Result, Ok, Err}
-use Rattle.std.specs.Result.{result_and, result_unwrap_or}
+use Rattle.std.specs.Result.{result_unwrap_or}
 use Rattle.refusal.specs.declared.Refusal.{Refusal}
-use Rattle.refusal.specs.Refusals.{number_in}
 use Rattle.buffers.specs.Objects.{first_in}
 use Rattle.context.proofs.Entries.{unsound_apart, buffer_does}
 use Rattle.gles_buffers.proofs.gen_buffers.Goals as goal
-
-same_number : (r : Result ℕ Refusal) → number_in (result_and {U = Unit {0}} r (Ok tt)) ≡ number_in r
-same_number (Ok n) = refl
-same_number (Err e) = refl
 
 first_made : (r : Result ℕ Refusal) → result_unwrap_or r 0 ≡ first_in r
 first_made (Ok n) = refl
@@ -25,7 +20,7 @@ returns-then-not-is_sound_apart c =
 pub returns : goal.returns
 returns c =
     let made = c.generate-made in
-    rw (c.answer-number.ensures, ap number_in c.and.ensures ∙ same_number made.result)
+    rw (c.put_buffers-number.ensures, c.number_of.ensures)
     (record {
       does = buffer_does _ _ _ _ (c.is_sound_apart.ensures.yes c.if-not-is_sound_apart.false) refl made.ensures.answers;
       first = c.unwrap_or.ensures ∙ first_made made.result ∙ made.ensures.names;
