@@ -65,16 +65,17 @@ pub struct Stacks {
     pub texture: MatrixStack,
 }
 
-// All state, in parts by what the calls touch. The bytes of the buffers are in the store, which the caller lends.
+// All state, in parts by what the calls touch. The bytes of the buffers are in the store, which the caller lends. With the number between stacks and
+// buffers the compiler can copy the one without the other.
 #[derive(Clone, Copy)]
 pub struct Context {
     pub mode: MatrixMode,
     pub stacks: Stacks,
+    pub error: u32,
     pub buffers: Buffers,
     pub arrays: Arrays,
     pub attributes: Attributes,
     pub pipeline: Pipeline,
-    pub error: u32,
 }
 
 // What a call answers: its number, 0 for done, and the context after it.
