@@ -11,10 +11,11 @@ use lib.ListN.{length}
 use Rattle.std.specs.Borrow.{Bor}
 use Rattle.fetch.specs.Fetch.{Part, bytes, no_buffer, unreadable, part_of, part_state, bytes_in}
 use Rattle.vertex.specs.Scene.{Scene, elements}
-use Rattle.vertex.specs.Index.{numbers, index_width, index_part, indices_in, indices_from}
+use Rattle.vertex.specs.Index.{numbers, index_width, type_width, index_part, indices_in, indices_from}
 use Rattle.vertex.specs.Questions.{part_number, elements_number}
 use Rattle.vertex.specs.SceneCode.{index_list}
 use Rattle.vertex.specs.declared.IndexList.{IndexList}
+use Rattle.vertex.specs.declared.IndexType.{IndexType}
 use Rattle.vertex.proofs.Sources.{Sized, sized, no_type}
 
 widths : (ty w : ℕ) → w ≡ index_width ty → (w ≡ 0 → ⊥) → (w ≡ 1) ⊎ (w ≡ 2)
@@ -66,3 +67,13 @@ module _ (s : Scene) (element count ty pointer w : ℕ) (e : w ≡ index_width t
       ∙ of_part (part_of s.contents s.base s.guest element pointer (count * w)) element w count b eb
       (ap (λ (x : ℕ). part_number element (part_state (part_of s.contents s.base s.guest element pointer (count * x)))) e ∙ part_there)
       (sized s.contents s.base s.guest element pointer (count * w)) width_there
+
+  by_type : (k : IndexType) (b : Bor (List ℕ)) → type_width k ≡ w → index_list (list_by_width w b) ≡ numbers (type_width k) (length b.now / type_width k) b.now
+  by_type IndexType.Byte b h = let n : length b.now / 1 ≡ length b.now = omega arith in rw (eq-eqb w 1 (sym h), n)
+  by_type IndexType.Short b h = rw (ne_eqb w 1 (λ q. omega (arith, h)))
+
+  -- so is each list that `IndexType::list` makes of the bytes, by its contract
+  pub listed_indices : (k : IndexType) (b : Bor (List ℕ)) (x : IndexList) → type_width k ≡ w
+      → b.now ≡ bytes_in (part_of s.contents s.base s.guest element pointer (count * w))
+      → index_list x ≡ numbers (type_width k) (length b.now / type_width k) b.now → indices_from s element (elements count ty pointer) ≡ index_list x
+  listed_indices k b x h eb e = stored_indices b eb ∙ by_type k b h ∙ sym e
