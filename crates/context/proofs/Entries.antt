@@ -278,15 +278,16 @@ module _ (u : stack.MatrixUpdate) (c : Context) where
       update_refused (refusal_number r) kept out z (refused r) refl
       (subst (λ (x : Result (List Float) Refusal). Settled c (currents_reply (multiplied x c) c) out) e g)
 
--- ---- calls that change one part of the context
+-- ---- calls that change one part of the context. Each law is of whatever a call replies: a sound context what the rule answers, with its number
+-- noted, an unsound one 1. The law after it is the same of a sound one alone
 
 -- mode calls
-pub mode_does : (code : ℕ) (c : Context) (n : ℕ) (m : MatrixMode) → Sound c
-    → answer n m ≡ answer (known_number (lookup matrix_modes code)) (mode_after code c.mode) → Does (calls.mode code) c n (noted n (put_mode m c))
-mode_does code c n m h e =
-    does (calls.mode code) c refl n _ h
-    (subst (λ (x : Answer MatrixMode). (s : List ℕ) → Follows (calls.mode code) c s x.number (noted x.number (put_mode x.after c)) s) (sym e)
-    (λ s. record {
+pub mode_does : (code : ℕ) (c : Context) (n : ℕ) (m : MatrixMode) (out : Reply)
+    → answer n m ≡ answer (known_number (lookup matrix_modes code)) (mode_after code c.mode) → Settled c (reply n (noted n (put_mode m c))) out
+    → Does (calls.mode code) c out.number out.context
+mode_does code c n m out e g =
+    settled_does (calls.mode code) c refl _ out (subst (λ (x : Answer MatrixMode). Settled c (reply x.number (noted x.number (put_mode x.after c))) out) e g)
+    (λ h s. record {
       number = refl;
       state = refl;
       sound = record { stacks = h.stacks; buffers = h.buffers; client_unit_in = h.client_unit_in; active_unit_in = h.active_unit_in };
@@ -294,7 +295,7 @@ mode_does code c n m h e =
       slots = λ _. refl;
       free = free_same;
       refusal = λ q. (inl (stays (lookup matrix_modes code) q), refl);
-    }))
+    })
   where
     new : Option MatrixMode → Answer MatrixMode
     new x = answer (known_number x) (get_or x c.mode)
@@ -303,22 +304,31 @@ mode_does code c n m h e =
     stays (some x) q = absurd (q refl)
     stays none q = refl
 
+pub sound_mode_does : (code : ℕ) (c : Context) (n : ℕ) (m : MatrixMode) → Sound c
+    → answer n m ≡ answer (known_number (lookup matrix_modes code)) (mode_after code c.mode) → Does (calls.mode code) c n (noted n (put_mode m c))
+sound_mode_does code c n m h e = mode_does code c n m (reply n (noted n (put_mode m c))) e (settled h refl)
+
 -- push and pop, on the stack of the mode in force
-pub stack_does : (k : stack.MatrixCall) (c : Context) (m : MatrixMode) (n : ℕ) (t : MatrixStack) → Sound c → c.mode ≡ m
+pub stack_does : (k : stack.MatrixCall) (c : Context) (m : MatrixMode) (n : ℕ) (t : MatrixStack) (out : Reply) → c.mode ≡ m
+    → answer n t ≡ stack.stack_answer k (stack_at m c.stacks) → Settled c (reply n (noted n (put_stacks (put_stack m t c.stacks) c))) out
+    → Does (calls.matrix k) c out.number out.context
+stack_does k c m n t out e q g =
+    settled_does (calls.matrix k) c refl _ out
+    (subst (λ (x : MatrixMode × Answer MatrixStack). Settled c (reply x.1.number (noted x.1.number (put_stacks (put_stack x.0 x.1.after c.stacks) c))) out)
+    (λ i. ((sym e) i, (q ∙ ap (λ x. stack.stack_answer k (stack_at x c.stacks)) (sym e)) i)) g)
+    (matrix_follows k c)
+
+pub sound_stack_does : (k : stack.MatrixCall) (c : Context) (m : MatrixMode) (n : ℕ) (t : MatrixStack) → Sound c → c.mode ≡ m
     → answer n t ≡ stack.stack_answer k (stack_at m c.stacks) → Does (calls.matrix k) c n (noted n (put_stacks (put_stack m t c.stacks) c))
-stack_does k c m n t h e q =
-    does (calls.matrix k) c refl n _ h
-    (subst (λ (x : MatrixMode × Answer MatrixStack). (s : List ℕ)
-    → Follows (calls.matrix k) c s x.1.number (noted x.1.number (put_stacks (put_stack x.0 x.1.after c.stacks) c)) s)
-    (λ i. (e i, (ap (λ x. stack.stack_answer k (stack_at x c.stacks)) e ∙ sym q) i)) (matrix_follows k c h))
+sound_stack_does k c m n t h e q = stack_does k c m n t (reply n (noted n (put_stacks (put_stack m t c.stacks) c))) e q (settled h refl)
 
 -- pointer, client state and client unit calls
-pub arrays_do : (k : ArrayCall) (c : Context) (n : ℕ) (a : Arrays) → Sound c → answer n a ≡ array_step k c.buffers.array_buffer c.arrays
-    → Does (calls.object (calls.array k)) c n (noted n (put_arrays a c))
-arrays_do k c n a h e =
-    does (calls.object (calls.array k)) c refl n _ h
-    (subst (λ (x : Answer Arrays). (s : List ℕ) → Follows (calls.object (calls.array k)) c s x.number (noted x.number (put_arrays x.after c)) s) (sym e)
-    (λ s. record {
+pub arrays_do : (k : ArrayCall) (c : Context) (n : ℕ) (a : Arrays) (out : Reply) → answer n a ≡ array_step k c.buffers.array_buffer c.arrays
+    → Settled c (reply n (noted n (put_arrays a c))) out → Does (calls.object (calls.array k)) c out.number out.context
+arrays_do k c n a out e g =
+    settled_does (calls.object (calls.array k)) c refl _ out
+    (subst (λ (x : Answer Arrays). Settled c (reply x.number (noted x.number (put_arrays x.after c))) out) e g)
+    (λ h s. record {
       number = refl;
       state = refl;
       sound = record {
@@ -331,18 +341,22 @@ arrays_do k c n a h e =
       slots = λ _. refl;
       free = free_same;
       refusal = λ q. ⊎_elim (λ z. absurd (q z)) (λ z. (inl (ap (λ x. noted new.number (put_arrays x c)) z.1), refl)) (array_keeps k c.buffers.array_buffer c.arrays);
-    }))
+    })
   where
     new : Answer Arrays
     new = array_step k c.buffers.array_buffer c.arrays
 
+pub sound_arrays_do : (k : ArrayCall) (c : Context) (n : ℕ) (a : Arrays) → Sound c → answer n a ≡ array_step k c.buffers.array_buffer c.arrays
+    → Does (calls.object (calls.array k)) c n (noted n (put_arrays a c))
+sound_arrays_do k c n a h e = arrays_do k c n a (reply n (noted n (put_arrays a c))) e (settled h refl)
+
 -- calls on the current values
-pub attributes_do : (k : AttributeCall) (c : Context) (n : ℕ) (a : Attributes) → Sound c → answer n a ≡ attribute_step k c.attributes
-    → Does (calls.attribute k) c n (noted n (put_attributes a c))
-attributes_do k c n a h e =
-    does (calls.attribute k) c refl n _ h
-    (subst (λ (x : Answer Attributes). (s : List ℕ) → Follows (calls.attribute k) c s x.number (noted x.number (put_attributes x.after c)) s) (sym e)
-    (λ s. record {
+pub attributes_do : (k : AttributeCall) (c : Context) (n : ℕ) (a : Attributes) (out : Reply) → answer n a ≡ attribute_step k c.attributes
+    → Settled c (reply n (noted n (put_attributes a c))) out → Does (calls.attribute k) c out.number out.context
+attributes_do k c n a out e g =
+    settled_does (calls.attribute k) c refl _ out
+    (subst (λ (x : Answer Attributes). Settled c (reply x.number (noted x.number (put_attributes x.after c))) out) e g)
+    (λ h s. record {
       number = refl;
       state = refl;
       sound = record { stacks = h.stacks; buffers = h.buffers; client_unit_in = h.client_unit_in; active_unit_in = h.active_unit_in };
@@ -350,18 +364,22 @@ attributes_do k c n a h e =
       slots = λ _. refl;
       free = free_same;
       refusal = λ q. ⊎_elim (λ z. absurd (q z)) (λ z. (inl (ap (λ x. noted new.number (put_attributes x c)) z.1), refl)) (attribute_keeps k c.attributes);
-    }))
+    })
   where
     new : Answer Attributes
     new = attribute_step k c.attributes
 
+pub sound_attributes_do : (k : AttributeCall) (c : Context) (n : ℕ) (a : Attributes) → Sound c → answer n a ≡ attribute_step k c.attributes
+    → Does (calls.attribute k) c n (noted n (put_attributes a c))
+sound_attributes_do k c n a h e = attributes_do k c n a (reply n (noted n (put_attributes a c))) e (settled h refl)
+
 -- pipeline calls
-pub pipeline_does : (k : PipelineCall) (c : Context) (n : ℕ) (p : Pipeline) → Sound c → answer n p ≡ pipeline_step k c.pipeline
-    → Does (calls.pipeline k) c n (noted n (put_pipeline p c))
-pipeline_does k c n p h e =
-    does (calls.pipeline k) c refl n _ h
-    (subst (λ (x : Answer Pipeline). (s : List ℕ) → Follows (calls.pipeline k) c s x.number (noted x.number (put_pipeline x.after c)) s) (sym e)
-    (λ s. record {
+pub pipeline_does : (k : PipelineCall) (c : Context) (n : ℕ) (p : Pipeline) (out : Reply) → answer n p ≡ pipeline_step k c.pipeline
+    → Settled c (reply n (noted n (put_pipeline p c))) out → Does (calls.pipeline k) c out.number out.context
+pipeline_does k c n p out e g =
+    settled_does (calls.pipeline k) c refl _ out
+    (subst (λ (x : Answer Pipeline). Settled c (reply x.number (noted x.number (put_pipeline x.after c))) out) e g)
+    (λ h s. record {
       number = refl;
       state = refl;
       sound = record { stacks = h.stacks; buffers = h.buffers; client_unit_in = h.client_unit_in; active_unit_in = active_stays k c.pipeline h.active_unit_in };
@@ -369,10 +387,14 @@ pipeline_does k c n p h e =
       slots = λ _. refl;
       free = free_same;
       refusal = λ q. ⊎_elim (λ z. absurd (q z)) (λ z. (inl (ap (λ x. noted new.number (put_pipeline x c)) z.1), refl)) (refusal_keeps k c.pipeline);
-    }))
+    })
   where
     new : Answer Pipeline
     new = pipeline_step k c.pipeline
+
+pub sound_pipeline_does : (k : PipelineCall) (c : Context) (n : ℕ) (p : Pipeline) → Sound c → answer n p ≡ pipeline_step k c.pipeline
+    → Does (calls.pipeline k) c n (noted n (put_pipeline p c))
+sound_pipeline_does k c n p h e = pipeline_does k c n p (reply n (noted n (put_pipeline p c))) e (settled h refl)
 
 -- ---- take_error
 

@@ -3,6 +3,7 @@
 
 ghost use Rattle.std.specs.Prelude.{◌≡◌, length};
 ghost use Rattle.refusal.specs.Refusals.{answer};
+ghost use Rattle.refusal.specs.RefusalsCode.{answered};
 ghost use Rattle.vertex.specs.Index.{range_count};
 ghost use Rattle.history.specs.Demand3.{DrawDid};
 ghost use Rattle.list_words.specs.Words.{word_at};
@@ -17,6 +18,7 @@ use buffers::{Buffers, STORE_BYTES};
 use context::{Context, DrawReply};
 use lent_stack::StackAnswer;
 use list_records::{CallReply, Record};
+use refusal::Refusal;
 use stack::{Matrix, MatrixStack, SAVED_LIMIT};
 use trace_format::{MAX_ENTRIES, STORE_AREA};
 use vertex::IndexType;
@@ -144,7 +146,7 @@ pub fn stack_of(w: &[u32]) -> MatrixStack
 }
 
 // What a record on one of those stacks answers: the number of push or pop, and the stack after it.
-pub fn stack_answer(s: MatrixStack, record: Record<'_>) -> StackAnswer
+pub fn answer_stack(s: MatrixStack, record: Record<'_>) -> StackAnswer
     ensures { answer result.number result.stack ≡ stack_record record.entry.code record.entry.words.now s }
 {
     match record.code {
@@ -158,6 +160,20 @@ pub fn stack_answer(s: MatrixStack, record: Record<'_>) -> StackAnswer
             number: 0,
             stack: s,
         },
+    }
+}
+
+// The same on a stack that the caller lends, with the reason of a refusal.
+pub fn stack_answer(s: &mut MatrixStack, record: Record<'_>) -> Result<(), Refusal>
+    ensures { answered result s.new ≡ stack_record record.entry.code record.entry.words.now s.old }
+{
+    let a = answer_stack(*s, record);
+    *s = a.stack;
+    match a.number {
+        0 => Ok(()),
+        0x0503 => Err(Refusal::StackOverflow),
+        0x0504 => Err(Refusal::StackUnderflow),
+        _ => Err(Refusal::Invalid),
     }
 }
 
@@ -291,6 +307,42 @@ pub fn draw<'a>(
         _ => {
             let pointer = record.word(5);
             view::draw_elements_from_guest(c, store, view, mode, a, b, pointer, stages, out)
+        }
+    }
+}
+
+#[cfg(test)]
+mod tests {
+    use super::*;
+
+    // A record of one of those stacks. Only STACK_SET reads its words.
+    fn stack_record(code: u32, words: &[u32]) -> Record<'_> {
+        Record {
+            code,
+            words,
+            bytes: &[],
+        }
+    }
+
+    #[test]
+    fn lent_stack_is_answered(rt: HostRuntime) {
+        let mut s = MatrixStack::new();
+        let (set, push, pop, show) = (0x70, 0x71, 0x72, 0x73);
+        for (code, words, answer, depth) in [
+            (pop, [0, 0], Err(Refusal::StackUnderflow), 0),
+            (push, [0, 0], Ok(()), 1),
+            (show, [0, 0], Ok(()), 1),
+            (pop, [0, 0], Ok(()), 0),
+            (set, [0, 14], Ok(()), 14),
+            (push, [0, 0], Ok(()), 15),
+            (push, [0, 0], Err(Refusal::StackOverflow), 15),
+            (set, [0, 16], Ok(()), 16),
+            (push, [0, 0], Err(Refusal::Invalid), 16),
+            (pop, [0, 0], Err(Refusal::Invalid), 16),
+        ] {
+            let answered = stack_answer(&mut s, stack_record(code, &words));
+            assert_eq!(rt; answered, answer, "record {code:#x}");
+            assert_eq!(rt; s.depth, depth, "after record {code:#x}");
         }
     }
 }

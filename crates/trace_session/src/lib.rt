@@ -63,7 +63,7 @@ fn say_stack_answer(code: u32, number: u32, s: MatrixStack) {
 fn use_stack(s: &mut MatrixStack, record: Record<'_>)
     ensures { s.new ≡ (stack_record record.entry.code record.entry.words.now s.old).after }
 {
-    let r = trace_driver::stack_answer(*s, record);
+    let r = trace_driver::answer_stack(*s, record);
     say_stack_answer(record.code, r.number, r.stack);
     *s = r.stack;
 }

@@ -1,6 +1,6 @@
 -- `gles_arrays::set_texcoord_pointer` meets its contract, from the call on the arrays.
 use Rattle.arrays.specs.Arrays.{accepted_arrays, array_step}
-use Rattle.context.proofs.Entries.{unsound, arrays_do}
+use Rattle.context.proofs.Entries.{unsound, sound_arrays_do}
 use Rattle.gles_arrays.proofs.set_texcoord_pointer.Goals as goal
 
 pub returns-then-not-is_sound : goal.returns-then-not-is_sound
@@ -8,4 +8,4 @@ returns-then-not-is_sound c = rw c.refuse.ensures (λ s. unsound _ _ s (c.is_sou
 
 pub returns : goal.returns
 unfolding array_step accepted_arrays
-returns c = rw c.answer.ensures (arrays_do _ _ _ _ (c.is_sound.ensures.yes c.if-not-is_sound.false) c.set_pointer-done.ensures)
+returns c = rw c.answer.ensures (sound_arrays_do _ _ _ _ (c.is_sound.ensures.yes c.if-not-is_sound.false) c.set_pointer-done.ensures)

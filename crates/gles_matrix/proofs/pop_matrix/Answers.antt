@@ -1,6 +1,6 @@
 -- `gles_matrix::pop_matrix` meets its contract: each arm is on the stack of the mode in force, which is lent.
 use Rattle.context.specs.declared.MatrixMode.{MatrixMode}
-use Rattle.context.proofs.Entries.{unsound, stack_does}
+use Rattle.context.proofs.Entries.{unsound, sound_stack_does}
 use Rattle.gles_matrix.proofs.pop_matrix.Goals as goal
 
 pub returns-then-not-is_sound : goal.returns-then-not-is_sound
@@ -8,12 +8,14 @@ returns-then-not-is_sound c = rw c.refuse.ensures (λ s. unsound _ _ s (c.is_sou
 
 pub returns-in-Modelview : goal.returns-in-Modelview
 returns-in-Modelview c =
-    rw c.note.ensures (stack_does _ _ MatrixMode.Modelview _ _ (c.is_sound.ensures.yes c.if-not-is_sound.false) c.in-Modelview.is c.popped-a.ensures)
+    rw c.note.ensures (sound_stack_does _ _ MatrixMode.Modelview _ _ (c.is_sound.ensures.yes c.if-not-is_sound.false) c.in-Modelview.is c.popped-a.ensures)
 
 pub returns-in-Projection : goal.returns-in-Projection
 returns-in-Projection c =
-    rw c.note-in-Projection.ensures (stack_does _ _ MatrixMode.Projection _ _ (c.is_sound.ensures.yes c.if-not-is_sound.false) c.in-Projection.is c.popped-a-in-Projection.ensures)
+    rw c.note-in-Projection.ensures
+    (sound_stack_does _ _ MatrixMode.Projection _ _ (c.is_sound.ensures.yes c.if-not-is_sound.false) c.in-Projection.is c.popped-a-in-Projection.ensures)
 
 pub returns-in-Texture : goal.returns-in-Texture
 returns-in-Texture c =
-    rw c.note-in-Texture.ensures (stack_does _ _ MatrixMode.Texture _ _ (c.is_sound.ensures.yes c.if-not-is_sound.false) c.in-Texture.is c.popped-a-in-Texture.ensures)
+    rw c.note-in-Texture.ensures
+    (sound_stack_does _ _ MatrixMode.Texture _ _ (c.is_sound.ensures.yes c.if-not-is_sound.false) c.in-Texture.is c.popped-a-in-Texture.ensures)

@@ -1,9 +1,9 @@
 -- `gles_pipeline::set_alpha_func` meets its contract, from the call on the settings.
-use Rattle.context.proofs.Entries.{unsound, pipeline_does}
+use Rattle.context.proofs.Entries.{unsound, sound_pipeline_does}
 use Rattle.gles_pipeline.proofs.set_alpha_func.Goals as goal
 
 pub returns-then-not-is_sound : goal.returns-then-not-is_sound
 returns-then-not-is_sound c = rw c.refuse.ensures (λ s. unsound _ _ s (c.is_sound.ensures.no c.if-not-is_sound.true))
 
 pub returns : goal.returns
-returns c = rw c.answer.ensures (pipeline_does _ _ _ _ (c.is_sound.ensures.yes c.if-not-is_sound.false) c.set_alpha_func-done.ensures)
+returns c = rw c.answer.ensures (sound_pipeline_does _ _ _ _ (c.is_sound.ensures.yes c.if-not-is_sound.false) c.set_alpha_func-done.ensures)

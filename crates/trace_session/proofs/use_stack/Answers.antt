@@ -5,4 +5,4 @@ use Rattle.stack.specs.declared.MatrixStack.{MatrixStack}
 use Rattle.trace_session.proofs.use_stack.Goals as goal
 
 pub returns : goal.returns
-returns c = ap (λ (a : Answer MatrixStack). a.after) c.stack_answer-r.ensures
+returns c = ap (λ (a : Answer MatrixStack). a.after) c.answer_stack-r.ensures
