@@ -164,6 +164,7 @@ pub fn answer_stack(s: MatrixStack, record: Record<'_>) -> StackAnswer
 }
 
 // The same on a stack that the caller lends, with the reason of a refusal.
+#[tactic(auto, unfolding(crate::specs::Stacks::stack_record, stack::specs::Stack::stack_answer))]
 pub fn stack_answer(s: &mut MatrixStack, record: Record<'_>) -> Result<(), Refusal>
     ensures { answered result s.new ≡ stack_record record.entry.code record.entry.words.now s.old }
 {
